@@ -1,0 +1,4 @@
+pub mod Open
+pub mod Values
+pub mod Same
+pub mod Below

@@ -1,0 +1,1 @@
+// Index forms: the definitions are in specs/, their laws in proofs/.

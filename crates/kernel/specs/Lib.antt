@@ -1,0 +1,11 @@
+pub mod File
+pub mod Reading
+pub mod Blocks
+pub mod Machine
+pub mod Memory
+pub mod Ledger
+pub mod Stand
+pub mod Rules
+pub mod Check
+pub mod Answers
+pub mod Measured

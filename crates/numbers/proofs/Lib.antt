@@ -1,0 +1,5 @@
+pub mod Open
+pub mod Ring
+pub mod Order
+pub mod Tests
+pub mod Results

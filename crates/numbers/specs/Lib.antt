@@ -1,0 +1,3 @@
+pub mod Result
+pub mod Lists
+pub mod Words
