@@ -6,7 +6,7 @@ use lib.ListN.{length, getD, take, drop}
 use lib.Dec.{eqb, leb, ltb}
 use lib.IntN.{pos}
 use Rattle.numbers.specs.Result.{Result, ok, stop, _>>=_, need, because}
-use Rattle.numbers.specs.Lists.{every}
+use Rattle.numbers.specs.Lists.{every, alike}
 use Rattle.numbers.specs.Words.{signed, words, between, within, inside, equal}
 use Rattle.forms.specs.Form.{Form, around}
 use Rattle.kernel.specs.File.{Rec, record-of, numbers, nothing, Kernel, input, output, on, only, length-of, first-of, count-of, step-of, index, Op, set, copy, work, load, store, read, write, Statement, does, for, if, else, end, none, statement}
@@ -125,11 +125,6 @@ holds c term w = within 1048576 (signed w)
 holds c bound w = within 65536 (signed w)
 holds c an-operator w = between 1 4 w
 
-unfoldable pub all-hold : Scope → List Kind → List ℕ → Bool
-all-hold c [] ws = true
-all-hold c (t ∷ ts) [] = false
-all-hold c (t ∷ ts) (w ∷ ws) = holds c t w && all-hold c ts ws
-
 -- "k not 0, and (q − p) / k a whole number of at least 1"
 unfoldable pub has-pass : Statement → Bool
 has-pass (does o) = true
@@ -140,7 +135,7 @@ has-pass end = true
 has-pass none = true
 
 unfoldable pub statement-fits : Scope → Rec → Bool
-statement-fits c r = between 1 11 (r .code) && all-hold c (getD table (r .code - 1) []) (numbers r) && has-pass (statement r)
+statement-fits c r = between 1 11 (r .code) && alike (holds c) (getD table (r .code - 1) []) (numbers r) && has-pass (statement r)
 
 -- ---- blocks
 
@@ -196,14 +191,14 @@ after-op (store p q f) os = names f os
 after-op (read p q) os = ok os
 after-op (write p q) os = ok os
 
--- the blocks open after a statement, or 4 or 5 (`none` was refused with 3 before)
+-- the blocks open after a statement, or 4 or 5 (what says nothing was refused with 3 before)
 unfoldable pub after : Statement → List Open → Result ℕ (List Open)
 after (does o) os = after-op o os
 after (for l) os = opened (in-for (l .passes) ∷ os)
 after (if p) os = opened (in-if ∷ os)
 after else os = after-else os
 after end os = after-end os
-after none os = stop 3
+after none os = ok os
 
 unfoldable pub closed : (s n : ℕ) → List Open → Result Fault (Unit {0})
 closed s n [] = ok tt

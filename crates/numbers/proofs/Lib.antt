@@ -1,4 +1,5 @@
 pub mod Open
+pub mod Examples
 pub mod Ring
 pub mod Order
 pub mod Tests

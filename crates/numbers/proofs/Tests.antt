@@ -29,6 +29,19 @@ pub or-cases : (a b : Bool) → a || b ≡ true → (a ≡ true) ⊎ (b ≡ true
 or-cases true b h = inl refl
 or-cases false b h = inr h
 
+-- tests joined by `&&`, as a row
+abbrev pub all-of : Bool → List Bool → Bool
+all-of b [] = b
+all-of b (c ∷ cs) = all-of (b && c) cs
+
+-- each of them
+pub each-of : (b : Bool) (cs : List Bool) → all-of b cs ≡ true → (i : ℕ) → getD (b ∷ cs) i true ≡ true
+each-of b [] h zero = h
+each-of b [] h (suc i) = refl
+each-of b (c ∷ cs) h zero = and-left b c (each-of (b && c) cs h 0)
+each-of b (c ∷ cs) h (suc zero) = and-right b c (each-of (b && c) cs h 0)
+each-of b (c ∷ cs) h (suc (suc i)) = each-of (b && c) cs h (suc i)
+
 -- ---- numbers
 
 pub between-range : (a b n : ℕ) → between a b n ≡ true → (a ≤ n) × (n ≤ b)
