@@ -157,9 +157,9 @@ unfolding kernel-open
 eighteen L = refl
 
 -- an else and an end that the innermost block does not ask for: no file gets there either
-no-such-block : (l : Loop) (L M : Ledger) (os : List Opened) (c : Stand) → (at-else [] L c ≡ stop 10) × (at-else (in-for l M ∷ os) L c ≡ stop 10) × (at-else (in-else M ∷ os) L c ≡ stop 10) × (at-end [] L c ≡ stop 10) × (at-end (in-if M ∷ os) L c ≡ stop 10)
+no-such-block : (l : Loop) (L : Ledger) (os : List Opened) (c : Stand) → (at-else [] c ≡ stop 10) × (at-else (in-for l L ∷ os) c ≡ stop 10) × (at-else (in-else L ∷ os) c ≡ stop 10) × (at-end [] c ≡ stop 10) × (at-end (in-if L ∷ os) c ≡ stop 10)
 unfolding kernel-open
-no-such-block l L M os c = (refl, refl, refl, refl, refl)
+no-such-block l L os c = (refl, refl, refl, refl, refl)
 
 -- the helper that shows a part of a program
 shows : shown (replicate 40 1) (replicate 40 2) 1 1 ≡ replicate 8 1

@@ -3,5 +3,7 @@ pub mod Measured
 pub mod Further
 pub mod Guarantees
 pub mod Readable
+pub mod Sayings
 pub mod Orders
 pub mod Trees
+pub mod Fronts

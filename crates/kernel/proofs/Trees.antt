@@ -1,7 +1,6 @@
 -- A program that reads has exactly one tree: `tree` is a block of the program's records, and any block that begins where it begins
 -- is that one.
 use mathlib.Core.Path.{_≡_, refl, sym, ap, subst, _∙_}
-use mathlib.Core.Logic.{_⊎_, inl, inr}
 use mathlib.Core.List.{List, [], _∷_}
 use Prim.Native.Nat.{ℕ, suc, _+_, _<_, _≤_}
 use native.Mathlib.Omega.{arith}
@@ -237,23 +236,22 @@ module _ (c : Scope) (rs : List Rec) where
 
 -- ---- no other block begins there
 
+-- kinds of statements, to tell them apart
+unfoldable pub kind : Statement → ℕ
+kind (does o) = 0
+kind (for l) = 1
+kind (if p) = 2
+kind else = 3
+kind end = 4
+kind none = 5
+
+pub unlike : {s t : Statement} → s ≡ t → (kind s ≡ kind t → ⊥) → ⊥
+unlike e f = f (ap kind e)
+
 module _ (c : Scope) (rs : List Rec) where
   -- a block that stops where a statement opens or does something
   no-stop : {n i j : ℕ} (s : Statement) → StopsAt rs n i j → said rs i ≡ s → (Stop s → ⊥) → ⊥
   no-stop s h e f = f (subst Stop e (subst (λ m. Stop (said rs m)) (sym (h .here)) (h .stop)))
-
-  -- kinds of statements, to tell them apart
-  kind : Statement → ℕ
-  kind (does o) = 0
-  kind (for l) = 1
-  kind (if p) = 2
-  kind else = 3
-  kind end = 4
-  kind none = 5
-
-  apart : {A : Type 0} (m n : ℕ) → m ≡ n → (m < n) ⊎ (n < m) → A
-  apart m n e (inl h) = absurd (omega arith)
-  apart m n e (inr h) = absurd (omega arith)
 
   abbrev Same : Block → Block → ℕ → ℕ → Type 0
   Same t u j k = (t ≡ u) × (j ≡ k)
@@ -273,10 +271,10 @@ module _ (c : Scope) (rs : List Rec) where
       let same : o ≡ o′ = cc in
       let at : n ≡ m = h .number ∙ sym (g .number) in
       ((λ x. plain (at x) (same x) (e x)), d)
-  one-block (plain n o t) (loop m l b u) os os′ i j k h g = apart 0 1 (ap kind (sym (h .says) ∙ g .says)) (inl (omega arith))
-  one-block (plain n o t) (branch m p a b u) os os′ i j k h g = apart 0 2 (ap kind (sym (h .says) ∙ g .says)) (inl (omega arith))
+  one-block (plain n o t) (loop m l b u) os os′ i j k h g = absurd (unlike (sym (h .says) ∙ g .says) (λ e. omega arith))
+  one-block (plain n o t) (branch m p a b u) os os′ i j k h g = absurd (unlike (sym (h .says) ∙ g .says) (λ e. omega arith))
   one-block (loop n l b t) (stops m) os os′ i j k h g = absurd (no-stop (for l) g (h .says) (λ x. x))
-  one-block (loop n l b t) (plain m o u) os os′ i j k h g = apart 1 0 (ap kind (sym (h .says) ∙ g .says)) (inr (omega arith))
+  one-block (loop n l b t) (plain m o u) os os′ i j k h g = absurd (unlike (sym (h .says) ∙ g .says) (λ e. omega arith))
   one-block (loop n l b t) (loop m l′ b′ u) os os′ i j k h g =
       let (e, d) = one-block b b′ (in-for (l .passes) ∷ os) (in-for (l′ .passes) ∷ os′) (suc i) (h .end-at) (g .end-at) (h .body) (g .body) in
       let (e₂, d₂) = one-block t u os os′ (suc (h .end-at)) j k (h .rest) (subst (λ x. IsBlock c rs u os′ (suc x) k) (sym d) (g .rest)) in
@@ -284,10 +282,10 @@ module _ (c : Scope) (rs : List Rec) where
       let same : l ≡ l′ = cc in
       let at : n ≡ m = h .number ∙ sym (g .number) in
       ((λ x. loop (at x) (same x) (e x) (e₂ x)), d₂)
-  one-block (loop n l b t) (branch m p a b′ u) os os′ i j k h g = apart 1 2 (ap kind (sym (h .says) ∙ g .says)) (inl (omega arith))
+  one-block (loop n l b t) (branch m p a b′ u) os os′ i j k h g = absurd (unlike (sym (h .says) ∙ g .says) (λ e. omega arith))
   one-block (branch n p a b t) (stops m) os os′ i j k h g = absurd (no-stop (if p) g (h .says) (λ x. x))
-  one-block (branch n p a b t) (plain m o u) os os′ i j k h g = apart 2 0 (ap kind (sym (h .says) ∙ g .says)) (inr (omega arith))
-  one-block (branch n p a b t) (loop m l b′ u) os os′ i j k h g = apart 2 1 (ap kind (sym (h .says) ∙ g .says)) (inr (omega arith))
+  one-block (branch n p a b t) (plain m o u) os os′ i j k h g = absurd (unlike (sym (h .says) ∙ g .says) (λ e. omega arith))
+  one-block (branch n p a b t) (loop m l b′ u) os os′ i j k h g = absurd (unlike (sym (h .says) ∙ g .says) (λ e. omega arith))
   one-block (branch n p a b t) (branch m p′ a′ b′ u) os os′ i j k h g =
       let (e, d) = one-block a a′ (in-if ∷ os) (in-if ∷ os′) (suc i) (h .else-at) (g .else-at) (h .first) (g .first) in
       let (e₁, d₁) = one-block b b′ (in-else ∷ os) (in-else ∷ os′) (suc (h .else-at)) (h .end-at) (g .end-at) (h .second) (subst (λ x. IsBlock c rs b′ (in-else ∷ os′) (suc x) (g .end-at)) (sym d) (g .second)) in

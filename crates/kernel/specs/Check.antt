@@ -40,8 +40,8 @@ something none = false
 something (some h) = true
 
 -- "position below count"
-unfoldable pub below-count : Kernel → List Opened → (q : ℕ) → Ledger → Bool
-below-count K os q L = below (loops os) (count-of (array K q)) (position q L)
+unfoldable pub below-count : Kernel → Stand → (q : ℕ) → Bool
+below-count K c q = below (loops (c .opened)) (count-of (array K q)) (position q (c .ledger))
 
 -- ---- hold rows
 
@@ -58,68 +58,73 @@ rows-fit K level rs =
 
 -- ---- the rules
 
--- rules 9 and 10 by the innermost block; the ledger is the one at its end
-unfoldable pub at-else : List Opened → Ledger → Stand → Result ℕ Stand
-at-else [] L c = stop 10
-at-else (in-for l rows ∷ os) L c = stop 10
-at-else (in-if start ∷ os) L c = ok (went 1 1 1 (in-else L ∷ os) start c)
-at-else (in-else first ∷ os) L c = stop 10
+-- columns "Array side" and "Stream side": whether rule r fits the next statements a and s, and a for its hold rows
+unfoldable pub fits : Kernel → Stand → Rule → (a s : Rec) → Bool
+fits K c same-rule a s = between sets works (a .code) && identical a s
+fits K c read-rule a s = codes loads reads a s && same-pq a s
+fits K c fill-rule a s = eqb (s .code) reads && is-buffer K (s .p)
+fits K c use-rule a s = codes loads copies a s && same-p a s && is-buffer K (s .q)
+fits K c move-rule a s = eqb (s .code) copies && is-buffer K (s .p) && is-buffer K (s .q)
+fits K c write-rule a s = codes stores writes a s && same-pq a s
+fits K c for-rule a s = codes fors fors a s && same-pqk a s && rows-fit K (suc (length (loops (c .opened)))) (hold-rows K c)
+fits K c if-rule a s = codes ifs ifs a s && same-p a s
+fits K c else-rule a s = codes elses elses a s
+fits K c end-rule a s = codes ends ends a s
+fits K c no-rule a s = false
 
-unfoldable pub at-end : List Opened → Ledger → Stand → Result ℕ Stand
-at-end [] L c = stop 10
-at-end (in-for l rows ∷ os) L c = do
+-- rule 9 by the innermost block: "else starts again from the ledger here"
+unfoldable pub at-else : List Opened → Stand → Result ℕ Stand
+at-else [] c = stop 10
+at-else (in-for l rows ∷ os) c = stop 10
+at-else (in-if start ∷ os) c = ok (went 1 1 1 (in-else (c .ledger) ∷ os) start c)
+at-else (in-else first ∷ os) c = stop 10
+
+-- rule 10 by the innermost block: "loop: hold rows kept (15); if: positions of both branches equal (16)"
+unfoldable pub at-end : List Opened → Stand → Result ℕ Stand
+at-end [] c = stop 10
+at-end (in-for l rows ∷ os) c = do
   let level = length (loops os)
-  _ ← need 15 (rows-true (each (moved-by level (l .step)) rows) L)
+  _ ← need 15 (rows-true (each (moved-by level (l .step)) rows) (c .ledger))
   ok (went 1 1 1 os (each (put-at level (limit l)) rows) c)
-at-end (in-if start ∷ os) L c = stop 10
-at-end (in-else first ∷ os) L c = do
-  _ ← need 16 (same-positions first L)
-  ok (went 1 1 1 os (merged first L) c)
+at-end (in-if start ∷ os) c = stop 10
+at-end (in-else first ∷ os) c = do
+  _ ← need 16 (same-positions first (c .ledger))
+  ok (went 1 1 1 os (merged first (c .ledger)) c)
 
--- the rule at stand c, next statements a and s, blocks open and ledger given: where the derivation stands then, or the refusal
-unfoldable pub follow : Kernel → Rule → (a s : Rec) → List Opened → Ledger → Stand → Result ℕ Stand
-follow K same-rule a s os L c = do
-  _ ← need 10 (between sets works (a .code) && identical a s)
-  ok (went 1 1 1 os L c)
-follow K read-rule a s os L c = do
-  _ ← need 10 (codes loads reads a s && same-pq a s)
-  _ ← need 11 (below-count K os (a .q) L)
-  _ ← need 12 (same (form a) (next-index K (a .q) L))
-  ok (went 1 1 1 os (read-step (a .q) L) c)
-follow K fill-rule a s os L c = do
-  _ ← need 10 (eqb (s .code) reads && is-buffer K (s .p))
-  _ ← need 11 (below-count K os (s .q) L)
-  ok (went 1 0 1 os (fill-step K (buffer K (s .p)) (s .q) L) c)
-follow K use-rule a s os L c = do
-  _ ← need 10 (codes loads copies a s && same-p a s && is-buffer K (s .q))
-  _ ← need 13 (holds-just (held (a .q) (form a)) (holding (buffer K (s .q)) L))
-  ok (went 1 1 1 os L c)
-follow K move-rule a s os L c = do
-  _ ← need 10 (eqb (s .code) copies && is-buffer K (s .p) && is-buffer K (s .q))
-  _ ← need 13 (something (holding (buffer K (s .q)) L))
-  ok (went 1 0 1 os (move-step (buffer K (s .p)) (buffer K (s .q)) L) c)
-follow K write-rule a s os L c = do
-  _ ← need 10 (codes stores writes a s && same-pq a s)
-  _ ← need 11 (below-count K os (a .q) L)
-  _ ← need 12 (same (form a) (next-index K (a .q) L))
-  ok (went 1 1 1 os (write-step (a .q) L) c)
-follow K for-rule a s os L c = do
-  let level = length (loops os)
+-- column "Condition and effect": where the derivation stands after a rule that fits, or the refusal
+unfoldable pub effect : Kernel → Stand → Rule → (a s : Rec) → Result ℕ Stand
+effect K c same-rule a s = ok (went 1 1 1 (c .opened) (c .ledger) c)
+effect K c read-rule a s = do
+  _ ← need 11 (below-count K c (a .q))
+  _ ← need 12 (same (form a) (next-index K (a .q) (c .ledger)))
+  ok (went 1 1 1 (c .opened) (read-step (a .q) (c .ledger)) c)
+effect K c fill-rule a s = do
+  _ ← need 11 (below-count K c (s .q))
+  ok (went 1 0 1 (c .opened) (fill-step K (buffer K (s .p)) (s .q) (c .ledger)) c)
+effect K c use-rule a s = do
+  _ ← need 13 (holds-just (held (a .q) (form a)) (holding (buffer K (s .q)) (c .ledger)))
+  ok (went 1 1 1 (c .opened) (c .ledger) c)
+effect K c move-rule a s = do
+  _ ← need 13 (something (holding (buffer K (s .q)) (c .ledger)))
+  ok (went 1 0 1 (c .opened) (move-step (buffer K (s .p)) (buffer K (s .q)) (c .ledger)) c)
+effect K c write-rule a s = do
+  _ ← need 11 (below-count K c (a .q))
+  _ ← need 12 (same (form a) (next-index K (a .q) (c .ledger)))
+  ok (went 1 1 1 (c .opened) (write-step (a .q) (c .ledger)) c)
+effect K c for-rule a s = do
   let l = loop-of a
-  let rows = hold-rows K c
-  _ ← need 10 (codes fors fors a s && same-pqk a s && rows-fit K (suc level) rows)
-  _ ← need 14 (rows-true (each (put-at level (l .first)) (stated K rows)) L)
-  ok (went (suc (row-count K)) 1 1 (in-for l (stated K rows) ∷ os) (stated K rows) c)
-follow K if-rule a s os L c = do
-  _ ← need 10 (codes ifs ifs a s && same-p a s)
-  ok (went 1 1 1 (in-if L ∷ os) L c)
-follow K else-rule a s os L c = do
-  _ ← need 10 (codes elses elses a s)
-  at-else os L c
-follow K end-rule a s os L c = do
-  _ ← need 10 (codes ends ends a s)
-  at-end os L c
-follow K no-rule a s os L c = stop 10
+  let rows = stated K (hold-rows K c)
+  _ ← need 14 (rows-true (each (put-at (length (loops (c .opened))) (l .first)) rows) (c .ledger))
+  ok (went (suc (row-count K)) 1 1 (in-for l rows ∷ c .opened) rows c)
+effect K c if-rule a s = ok (went 1 1 1 (in-if (c .ledger) ∷ c .opened) (c .ledger) c)
+effect K c else-rule a s = at-else (c .opened) c
+effect K c end-rule a s = at-end (c .opened) c
+effect K c no-rule a s = stop 10
+
+unfoldable pub follow : Kernel → Stand → Rule → (a s : Rec) → Result ℕ Stand
+follow K c r a s = do
+  _ ← need 10 (fits K c r a s)
+  effect K c r a s
 
 -- ---- the walk
 
@@ -132,7 +137,7 @@ at c r = because (λ number. break number (c .rule) (c .array) (c .stream)) r
 
 -- one rule
 unfoldable pub take-rule : Kernel → Stand → Result Break Stand
-take-rule K c = at c (follow K (rule (next-rule K c .code)) (next-array K c) (next-stream K c) (c .opened) (c .ledger) c)
+take-rule K c = at c (follow K c (rule (next-rule K c .code)) (next-array K c) (next-stream K c))
 
 unfoldable pub no-block : List Opened → Bool
 no-block [] = true

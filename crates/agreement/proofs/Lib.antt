@@ -1,0 +1,11 @@
+pub mod Judge
+pub mod Tested
+pub mod Exact
+pub mod Walks
+pub mod Sim
+pub mod Steps
+pub mod Turns
+pub mod Passes
+pub mod Sound
+pub mod Laying
+pub mod Agreed

@@ -1,0 +1,152 @@
+-- A loop keeps the tie: the hold rows, with the counter put at a pass's value, are what ties the two runs before that pass.
+use mathlib.Core.Path.{_≡_, refl, sym, ap, subst, _∙_}
+use mathlib.Core.List.{List, [], _∷_, _++_, append-assoc}
+use Prim.Native.Nat.{ℕ, zero, suc, _+_, _<_}
+use native.Mathlib.Omega.{arith}
+use native.Mathlib.Numerals.{add-one}
+use lib.ListN.{length, set, replicate, length-append, length-replicate, length-set}
+use lib.Seq.{set-append-seam, set-set, getD-set-same}
+use lib.IntN.{ℤ, pos, _+ℤ_, _*ℤ_, +ℤ-idl, *ℤ-zero, sucℤ-*ℤ, *ℤ-comm}
+use lib.Signed.{_<ℤ_}
+use Rattle.numbers.specs.Result.{Result, _>>=_}
+use Rattle.numbers.proofs.Ring.{ring}
+use Rattle.forms.specs.Form.{Form, terms, value, put-at, moved-by, Loop, counter, limit, Choice, none, pass, Below}
+use Rattle.forms.proofs.Values.{value-put-at, value-moved-by}
+use Rattle.kernel.specs.File.{Kernel}
+use Rattle.kernel.specs.Machine.{World, State, Around, Stuck, in-pass, repeat}
+use Rattle.kernel.specs.Ledger.{Ledger, each}
+use Rattle.kernel.specs.Stand.{Opened, in-for, loops}
+use Rattle.kernel.specs.Rules.{RowsTrue}
+use Rattle.agreement.proofs.Sim.{Sim, Related, both-end, both-stick, sim-turn}
+use Rattle.agreement.proofs.Turns.{rows-values, turned-values, plain-values}
+
+-- ---- results of both runs, one after the other
+
+pub then-both : {K : Kernel} {e : World} {L M : Ledger} {cs ds : List ℤ} {r r′ : Result Stuck State} (f g : State → Result Stuck State)
+    → Related K e L cs r r′ → ((x y : State) → Sim K e L cs x y → Related K e M ds (f x) (g y)) → Related K e M ds (r >>= f) (r′ >>= g)
+unfolding _>>=_
+then-both f g (both-end {x} {y} s) h = h x y s
+then-both f g (both-stick w o) h = both-stick w o
+
+pub turn-both : {K : Kernel} {e : World} {L M : Ledger} {cs ds : List ℤ} {r r′ : Result Stuck State}
+    → Related K e L cs r r′ → ((x y : State) → Sim K e L cs x y → Sim K e M ds x y) → Related K e M ds r r′
+turn-both (both-end {x} {y} s) h = both-end (h x y s)
+turn-both (both-stick w o) h = both-stick w o
+
+-- ---- counters
+
+-- the machine's counters are a choice of values for the loops open, and 0 behind them
+pub record Chosen (os : List Opened) (a : Around) : Type 0 where
+  pub values : List ℤ
+  pub choice : Choice (loops os) values
+  pub zeros : ℕ
+  pub counters-are : a .counters ≡ values ++ replicate zeros (pos 0)
+  pub four : length values + zeros ≡ 4
+  pub level-is : a .level ≡ length (loops os)
+
+choice-length : {ls : List Loop} {cs : List ℤ} → Choice ls cs → length cs ≡ length ls
+choice-length none = refl
+choice-length (pass m h c) = ap suc (choice-length c)
+
+terms-nil : (xs : List ℤ) → terms xs [] ≡ pos 0
+unfolding terms
+terms-nil [] = refl
+terms-nil (x ∷ xs) = refl
+
+terms-only-zeros : (xs : List ℤ) (k : ℕ) → terms xs (replicate k (pos 0)) ≡ pos 0
+unfolding terms
+terms-only-zeros [] k = refl
+terms-only-zeros (x ∷ xs) zero = refl
+terms-only-zeros (x ∷ xs) (suc k) = ap (λ z. z +ℤ terms xs (replicate k (pos 0))) (*ℤ-zero x) ∙ +ℤ-idl (terms xs (replicate k (pos 0))) ∙ terms-only-zeros xs k
+
+terms-zeros : (xs cs : List ℤ) (k : ℕ) → terms xs (cs ++ replicate k (pos 0)) ≡ terms xs cs
+unfolding terms
+terms-zeros xs [] k = terms-only-zeros xs k ∙ sym (terms-nil xs)
+terms-zeros [] (c ∷ cs) k = refl
+terms-zeros (x ∷ xs) (c ∷ cs) k = ap (λ z. x *ℤ c +ℤ z) (terms-zeros xs cs k)
+
+-- what stays below a count over all choices is below it at the machine's counters
+pub below-here : {os : List Opened} {a : Around} (n : ℕ) (f : Form) → Chosen os a → Below (loops os) n f → value f (a .counters) <ℤ pos n
+unfolding value
+below-here n f c b =
+    subst (λ cs. (f .k +ℤ terms (f .x) cs) <ℤ pos n) (sym (c .counters-are))
+    (subst (λ z. (f .k +ℤ z) <ℤ pos n) (sym (terms-zeros (f .x) (c .values) (c .zeros))) (b .always (c .values) (c .choice)))
+
+pub counters-four : {os : List Opened} {a : Around} → Chosen os a → length (a .counters) ≡ 4
+counters-four c = ap length (c .counters-are) ∙ length-append (c .values) (replicate (c .zeros) (pos 0)) ∙ omega (arith, length-replicate (c .zeros) (pos 0), c .four)
+
+choice-more : {ls : List Loop} {cs : List ℤ} (l : Loop) (m : ℕ) → m < l .passes → Choice ls cs → Choice (ls ++ l ∷ []) (cs ++ counter l m ∷ [])
+choice-more l m h none = pass m h none
+choice-more l m h (pass n k c) = pass n k (choice-more l m h c)
+
+-- in a pass of one more loop
+pub chosen-pass : {os : List Opened} {a : Around} (l : Loop) (rows : Ledger) (m : ℕ) → m < l .passes → length (loops os) < 4 → Chosen os a → Chosen (in-for l rows ∷ os) (in-pass l a m)
+unfolding loops
+chosen-pass {os} {a} l rows m h low c = by (c .zeros) (c .counters-are) (c .four)
+  where
+    as-long : length (c .values) ≡ length (loops os)
+    as-long = choice-length (c .choice)
+
+    by : (k : ℕ) → a .counters ≡ c .values ++ replicate k (pos 0) → length (c .values) + k ≡ 4 → Chosen (in-for l rows ∷ os) (in-pass l a m)
+    by zero e f = absurd (omega (arith, as-long))
+    by (suc k) e f = record {
+      values = c .values ++ counter l m ∷ [];
+      choice = choice-more l m h (c .choice);
+      zeros = k;
+      counters-are =
+          ap (λ cs. set cs (a .level) (counter l m)) e
+          ∙ ap (λ i. set (c .values ++ pos 0 ∷ replicate k (pos 0)) i (counter l m)) (c .level-is ∙ sym as-long)
+          ∙ set-append-seam (c .values) (pos 0) (replicate k (pos 0)) (counter l m)
+          ∙ sym (append-assoc (c .values) (counter l m ∷ []) (replicate k (pos 0)));
+      four = omega (arith, length-append (c .values) (counter l m ∷ []));
+      level-is = ap (λ n. n + 1) (c .level-is) ∙ sym (length-append (loops os) (l ∷ []));
+    }
+
+-- ---- the passes of a loop
+
+counter-next : (l : Loop) (m : ℕ) → counter l m +ℤ l .step ≡ counter l (m + 1)
+unfolding counter
+counter-next l m = one-more (l .first) (l .step) (pos m) ∙ ap (λ z. l .first +ℤ z) (times-one (l .step) m)
+  where
+    one-more : (f s p : ℤ) → (f +ℤ s *ℤ p) +ℤ s ≡ f +ℤ (s *ℤ p +ℤ s)
+    one-more f s p = simp ring
+
+    times-one : (s : ℤ) (m : ℕ) → s *ℤ pos m +ℤ s ≡ s *ℤ pos (m + 1)
+    times-one s m = ap (λ z. z +ℤ s) (*ℤ-comm s (pos m)) ∙ sym (sucℤ-*ℤ (pos m) s) ∙ *ℤ-comm (pos (suc m)) s ∙ ap (λ n. s *ℤ pos n) (sym (add-one m))
+
+module _ {K : Kernel} {e : World} (l : Loop) (rows M : Ledger) (a : Around) (level : ℕ) (at-level : a .level ≡ level) (low : level < length (a .counters))
+    (positions : length (rows .positions) ≡ length (K .arrays)) (buffers : length (rows .buffers) ≡ K .buffers)
+    (kept : RowsTrue (each (moved-by level (l .step)) rows) M)
+    (f g : ℕ → State → Result Stuck State)
+    (body : (m : ℕ) → m < l .passes → (x y : State) → Sim K e rows (in-pass l a m .counters) x y → Related K e M (in-pass l a m .counters) (f m x) (g m y)) where
+  -- before pass m
+  abbrev Before : ℕ → State → State → Type 0
+  Before m x y = Sim K e (each (put-at level (counter l m)) rows) (a .counters) x y
+
+  in-counters : (m : ℕ) → in-pass l a m .counters ≡ set (a .counters) level (counter l m)
+  in-counters m = ap (λ i. set (a .counters) i (counter l m)) at-level
+
+  enters : (m : ℕ) (x y : State) → Before m x y → Sim K e rows (in-pass l a m .counters) x y
+  enters m x y s = sim-turn (plain-values K rows positions buffers (put-at level (counter l m)) (a .counters) (in-pass l a m .counters)
+      (λ h. ap (value h) (in-counters m) ∙ sym (value-put-at level (counter l m) h (a .counters) low))) s
+
+  goes-on : (m : ℕ) (x y : State) → Sim K e M (in-pass l a m .counters) x y → Before (m + 1) x y
+  goes-on m x y s =
+      sim-turn (turned-values K rows positions buffers (moved-by level (l .step)) (put-at level (counter l (m + 1))) (in-pass l a m .counters) (a .counters) same)
+      (sim-turn (rows-values K rows positions buffers (moved-by level (l .step)) M (in-pass l a m .counters) kept) s)
+    where
+      same : (h : Form) → value (put-at level (counter l (m + 1)) h) (a .counters) ≡ value (moved-by level (l .step) h) (in-pass l a m .counters)
+      same h =
+          value-put-at level (counter l (m + 1)) h (a .counters) low
+          ∙ ap (λ z. value h (set (a .counters) level z)) (sym (counter-next l m))
+          ∙ ap (value h) (sym (set-set (a .counters) level (counter l m) (counter l m +ℤ l .step)))
+          ∙ ap (λ z. value h (set (set (a .counters) level (counter l m)) level (z +ℤ l .step))) (sym (getD-set-same (a .counters) level (counter l m) (pos 0) low))
+          ∙ sym (value-moved-by level (l .step) h (set (a .counters) level (counter l m)) (subst (λ n. level < n) (sym (length-set (a .counters) level (counter l m))) low))
+          ∙ ap (value (moved-by level (l .step) h)) (sym (in-counters m))
+
+  pub passes-kept : (n m : ℕ) → m + n ≡ l .passes → (x y : State) → Before m x y → Related K e (each (put-at level (limit l)) rows) (a .counters) (repeat f n m x) (repeat g n m y)
+  unfolding repeat limit
+  passes-kept zero m z x y s = both-end (subst (λ k. Sim K e (each (put-at level (counter l k)) rows) (a .counters) x y) (omega (arith, z)) s)
+  passes-kept (suc n) m z x y s =
+      then-both (repeat f n (m + 1)) (repeat g n (m + 1)) (turn-both (body m (omega arith) x y (enters m x y s)) (λ x′ y′ s′. goes-on m x′ y′ s′))
+      λ x′ y′ s′. passes-kept n (m + 1) (omega arith) x′ y′ s′

@@ -1,0 +1,79 @@
+-- What a record says, from its code; and what reading guarantees of the statement at a place.
+use mathlib.Core.Path.{_≡_, ap}
+use mathlib.Core.List.{List}
+use Prim.Native.Nat.{ℕ, zero, suc, _<_, _≤_}
+use native.Mathlib.Omega.{arith}
+use native.Mathlib.Decide.{decLt}
+use lib.ListN.{length, getD, List·getD-eq-default}
+use Rattle.kernel.specs.File.{Rec, form, nothing, sets, copies, works, loads, stores, reads, writes, fors, ifs, elses, ends, operator, set, copy, work, load, store, read, write, Statement, does, for, if, else, end, none, loop-of, sayings, statement}
+use Rattle.kernel.specs.Reading.{Scope, Open}
+use Rattle.kernel.proofs.Guarantees.{Fits, Nested, over, then}
+
+said-by : (r : Rec) (n : ℕ) → r .code ≡ n → statement r ≡ getD {A = Rec → Statement} sayings n (λ r. none) r
+unfolding statement
+said-by r n e = ap (λ n. getD {A = Rec → Statement} sayings n (λ r. none) r) e
+
+module _ (r : Rec) where
+  pub says-set : r .code ≡ sets → statement r ≡ does (set (r .p) (form r))
+  unfolding sayings
+  says-set e = said-by r 1 e
+
+  pub says-copy : r .code ≡ copies → statement r ≡ does (copy (r .p) (r .q))
+  unfolding sayings
+  says-copy e = said-by r 2 e
+
+  pub says-work : r .code ≡ works → statement r ≡ does (work (operator (getD (r .x) 0 0)) (r .p) (r .q) (r .k))
+  unfolding sayings
+  says-work e = said-by r 3 e
+
+  pub says-load : r .code ≡ loads → statement r ≡ does (load (r .p) (r .q) (form r))
+  unfolding sayings
+  says-load e = said-by r 4 e
+
+  pub says-store : r .code ≡ stores → statement r ≡ does (store (r .p) (r .q) (form r))
+  unfolding sayings
+  says-store e = said-by r 5 e
+
+  pub says-read : r .code ≡ reads → statement r ≡ does (read (r .p) (r .q))
+  unfolding sayings
+  says-read e = said-by r 6 e
+
+  pub says-write : r .code ≡ writes → statement r ≡ does (write (r .p) (r .q))
+  unfolding sayings
+  says-write e = said-by r 7 e
+
+  pub says-for : r .code ≡ fors → statement r ≡ for (loop-of r)
+  unfolding sayings
+  says-for e = said-by r 8 e
+
+  pub says-if : r .code ≡ ifs → statement r ≡ if (r .p)
+  unfolding sayings
+  says-if e = said-by r 9 e
+
+  pub says-else : r .code ≡ elses → statement r ≡ else
+  unfolding sayings
+  says-else e = said-by r 10 e
+
+  pub says-end : r .code ≡ ends → statement r ≡ end
+  unfolding sayings
+  says-end e = said-by r 11 e
+
+-- the statement at a place of a program that reads
+pub fits-at : {c : Scope} {os : List Open} {rs : List Rec} → Nested c os rs → (i : ℕ) → i < length rs → Fits c (statement (getD rs i nothing))
+fits-at over i h = absurd (no-more h)
+  where
+    no-more : i < 0 → ⊥
+    no-more h = omega arith
+fits-at (then f e more) zero h = f
+fits-at (then f e more) (suc i) h = fits-at more i (omega arith)
+
+-- a record that has a code stands before the end
+pub there-at : (rs : List Rec) (i : ℕ) → 1 ≤ getD rs i nothing .code → i < length rs
+there-at rs i h = by (decLt i (length rs))
+  where
+    none-there : (n : ℕ) → 1 ≤ n → n ≡ 0 → ⊥
+    none-there n h e = omega arith
+
+    by : Dec (i < length rs) → i < length rs
+    by (yes l) = l
+    by (no n) = absurd (none-there (getD rs i nothing .code) h (ap (λ r. r .code) (List·getD-eq-default rs nothing {n = i} (omega arith))))
