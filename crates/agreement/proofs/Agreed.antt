@@ -1,6 +1,6 @@
 -- Demand 3: both runs of an accepted file begin tied, go through the whole derivation, and end as it ends.
 use mathlib.Core.Path.{_≡_, refl, sym, ap, subst, _∙_}
-use mathlib.Core.Logic.{_⊎_}
+use mathlib.Core.Logic.{_⊎_, inl, inr}
 use mathlib.Core.Bool.{cond}
 use mathlib.Core.List.{List, [], _∷_, map}
 use mathlib.Core.Option.{Option, none, some}
@@ -28,7 +28,7 @@ use Rattle.kernel.proofs.Guarantees.{Reads}
 use Rattle.kernel.proofs.Readable.{file-reads}
 use Rattle.kernel.proofs.Sayings.{says-load, says-store, says-read, says-copy, says-for, says-if, says-else, says-end}
 use Rattle.kernel.proofs.Trees.{said, kind, one-tree}
-use Rattle.agreement.specs.Agreement.{Agree, Agreement}
+use Rattle.agreement.specs.Agreement.{Agree, Agreement, Safety}
 use Rattle.agreement.proofs.Walks.{Path, stays, steps, path, exactness}
 use Rattle.agreement.proofs.Sim.{Sim, Related, both-end, both-stick}
 use Rattle.agreement.proofs.Turns.{map-at}
@@ -203,3 +203,18 @@ module _ (K : Kernel) (reads : Reads K) (m : List ℕ) where
 
 pub agreement : Agreement
 agreement file memory K e h size = derived-agree K (on-at (file-reads file) e) (words memory) (exactness file K e .0 h)
+
+-- ---- what follows from it
+
+pub safety : Safety
+safety file memory K e h size =
+    let a = agreement file memory K e h size in
+    record {
+      inside = λ n z. neither (a .array-sticks 33 n z .0) (omega arith);
+      not-dry = λ n z. neither (a .stream-sticks 34 n z .0) (omega arith);
+      not-over = λ n z. neither (a .stream-sticks 35 n z .0) (omega arith);
+    }
+  where
+    neither : {r : ℕ} → (r ≡ 31) ⊎ (r ≡ 32) → 32 < r → ⊥
+    neither (inl e) l = omega arith
+    neither (inr e) l = omega arith

@@ -9,3 +9,5 @@ pub mod Passes
 pub mod Sound
 pub mod Laying
 pub mod Agreed
+pub mod Ended
+pub mod Smoother

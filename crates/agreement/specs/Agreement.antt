@@ -10,6 +10,7 @@ use Rattle.kernel.specs.File.{Kernel, input, output, length-of, count-of}
 use Rattle.kernel.specs.Reading.{read-file}
 use Rattle.kernel.specs.Memory.{total, laid-out, put-back, Ending, ended, sticks, Ran, array-ran, stream-ran}
 use Rattle.kernel.specs.Answers.{accepted, check}
+use Rattle.kernel.specs.Measured.{smooth}
 
 -- "the same reason (31 or 32)": an unset register, a zero divisor
 abbrev pub Reason : ℕ → Type 0
@@ -36,3 +37,19 @@ pub record Agree (K : Kernel) (array stream : Ran) : Type 0 where
 abbrev pub Agreement : Type 0
 Agreement = (file memory : List ℕ) (K : Kernel) → read-file file ≡ ok K → check file ≡ accepted → length memory ≡ 4 * total input length-of K
     → Agree K (array-ran K (words memory)) (stream-ran K (laid-out K (words memory)))
+
+-- ---- what follows from it: of an accepted file's runs no load or store is outside its array, and no stream runs dry or over
+
+pub record NeverOutside (array stream : Ran) : Type 0 where
+  pub inside : (n : ℕ) → array .ending ≡ sticks 33 n → ⊥
+  pub not-dry : (n : ℕ) → stream .ending ≡ sticks 34 n → ⊥
+  pub not-over : (n : ℕ) → stream .ending ≡ sticks 35 n → ⊥
+
+abbrev pub Safety : Type 0
+Safety = (file memory : List ℕ) (K : Kernel) → read-file file ≡ ok K → check file ≡ accepted → length memory ≡ 4 * total input length-of K
+    → NeverOutside (array-ran K (words memory)) (stream-ran K (laid-out K (words memory)))
+
+-- the smoother of "Measured by hand", on every input memory of its size
+abbrev pub SmootherAgrees : Type 0
+SmootherAgrees = (memory : List ℕ) → length memory ≡ 16
+    → (K : Kernel) × (read-file smooth ≡ ok K) × Agree K (array-ran K (words memory)) (stream-ran K (laid-out K (words memory)))

@@ -55,7 +55,7 @@ decimal (suc f) n after = elim (ltb n 10) [ true ↦ (48 + n) ∷ after | false 
 -- each number behind a space, then the line's end
 unfoldable pub spaced : List ℕ → List ℕ
 spaced [] = 10 ∷ []
-spaced (n ∷ ns) = 32 ∷ decimal 10 n (spaced ns)
+spaced (n ∷ ns) = 32 ∷ decimal (suc n) n (spaced ns)
 
 -- accepted; read ..; check ..
 unfoldable pub line : Checked → List ℕ

@@ -1,0 +1,265 @@
+-- Demand 1: enough rules and digits, lengths kept, and the bound on a run's steps, by induction over the block.
+use mathlib.Core.Path.{_≡_, refl, sym, ap, _∙_}
+use mathlib.Core.Bool.{Bool, true, false, cond, false≢true}
+use mathlib.Core.List.{List, [], _∷_}
+use Prim.Native.Nat.{ℕ, zero, suc, _+_, _*_, _/_, _%_, _<_, _≤_}
+use native.Mathlib.Omega.{arith}
+use native.Mathlib.Nat as NatL
+use lib.Dec.{eqb, leb, ltb}
+use lib.ListN.{length, length-set, length-replicate}
+use lib.IntN.{ℤ}
+use borrow.Author.Tests.{le-leb, ltb-false}
+use Rattle.numbers.specs.Result.{Result, ok, stop, _>>=_, because}
+use Rattle.numbers.proofs.Results.{On, on-ok, on-stop, on-then, on-because, on-any, on-at}
+use Rattle.kernel.specs.File.{Rec, Kernel, output, length-of, count-of, Op, set, copy, work, load, store, read, write}
+use Rattle.kernel.specs.Reading.{Scope, array-scope, stream-scope, Open, all-passes}
+use Rattle.kernel.specs.Reading as Reading
+use Rattle.kernel.specs.Blocks.{Block, stops, plain, loop, branch, tree}
+use Rattle.kernel.specs.Machine.{World, State, Around, get, put, advance, keep, perform, Stuck, stuck, step, choose, in-pass, repeat, run}
+use Rattle.kernel.specs.Memory.{total, ran, world, start, outside, array-ran, stream-ran}
+use Rattle.kernel.specs.Stand.{Opened, in-for, in-if, in-else, Stand, beginning, next-rule, next-array, next-stream, went, row-count, Rule, same-rule, read-rule, fill-rule, use-rule, move-rule, write-rule, for-rule, if-rule, else-rule, end-rule, no-rule, rule}
+use Rattle.kernel.specs.Check.{at-else, at-end, effect, follow, Break, at, take-rule, finish, walk, check-kernel}
+use Rattle.kernel.specs.Answers.{decimal}
+use Rattle.kernel.proofs.Guarantees.{Nested}
+use Rattle.kernel.proofs.Readable.{file-reads}
+use Rattle.kernel.proofs.Trees.{IsBlock, one-tree}
+use Rattle.agreement.specs.Ends.{EnoughRules, EnoughDigits, LengthsKept, after, pass-steps, chosen-steps, steps, allowed, FewSteps, Ends}
+
+-- ---- digits
+
+same-digits : (f g n : ℕ) (rest : List ℕ) → n < f → n < g → decimal f n rest ≡ decimal g n rest
+unfolding decimal
+same-digits zero g n rest h k = absurd (omega arith)
+same-digits (suc f) zero n rest h k = absurd (omega arith)
+same-digits (suc f) (suc g) n rest h k = by (ltb n 10) refl (λ l. same-digits f g (n / 10) ((48 + n % 10) ∷ rest) (omega arith) (omega arith))
+  where
+    by : (t : Bool) → ltb n 10 ≡ t → (10 ≤ n → decimal f (n / 10) ((48 + n % 10) ∷ rest) ≡ decimal g (n / 10) ((48 + n % 10) ∷ rest))
+        → _≡_ {A = List ℕ} (elim t [ true ↦ (48 + n) ∷ rest | false ↦ decimal f (n / 10) ((48 + n % 10) ∷ rest) ]) (elim t [ true ↦ (48 + n) ∷ rest | false ↦ decimal g (n / 10) ((48 + n % 10) ∷ rest) ])
+    by true e r = refl
+    by false e r = r (ltb-false n 10 e)
+
+pub enough-digits : EnoughDigits
+enough-digits n f rest h = same-digits f (suc n) n rest h (omega arith)
+
+-- ---- rules
+
+-- a rule that is taken goes forth
+taken-forth : (K : Kernel) (c : Stand) → On (λ d. c .rule < d .rule) (take-rule K c)
+unfolding take-rule at follow effect at-else at-end went
+taken-forth K c = on-because _ (on-then _ (on-any {P = λ _. Unit {0}} (λ t. tt)) λ t u. by (rule (next-rule K c .code)) (next-array K c) (next-stream K c))
+  where
+    forth : (k n : ℕ) → 1 ≤ n → k < k + n
+    forth k n h = omega arith
+
+    at-block-end : (os : List Opened) → On (λ d. c .rule < d .rule) (at-end os c)
+    at-block-end [] = on-stop
+    at-block-end (in-for l rows ∷ os) = on-then _ (on-any {P = λ _. Unit {0}} (λ t. tt)) λ t u. on-ok (forth (c .rule) 1 (omega arith))
+    at-block-end (in-if L ∷ os) = on-stop
+    at-block-end (in-else first ∷ os) = on-then _ (on-any {P = λ _. Unit {0}} (λ t. tt)) λ t u. on-ok (forth (c .rule) 1 (omega arith))
+
+    at-block-else : (os : List Opened) → On (λ d. c .rule < d .rule) (at-else os c)
+    at-block-else [] = on-stop
+    at-block-else (in-for l rows ∷ os) = on-stop
+    at-block-else (in-if L ∷ os) = on-ok (forth (c .rule) 1 (omega arith))
+    at-block-else (in-else first ∷ os) = on-stop
+
+    one : {A : Type 0} (m : Result ℕ A) (f : A → Result ℕ Stand) → ((a : A) → On (λ d. c .rule < d .rule) (f a)) → On (λ d. c .rule < d .rule) (m >>= f)
+    one m f h = on-then f (on-any {P = λ _. Unit {0}} (λ t. tt)) λ a u. h a
+
+    by : (r : Rule) (a s : Rec) → On (λ d. c .rule < d .rule) (effect K c r a s)
+    by same-rule a s = on-ok (forth (c .rule) 1 (omega arith))
+    by read-rule a s = one _ _ λ t. one _ _ λ t. on-ok (forth (c .rule) 1 (omega arith))
+    by fill-rule a s = one _ _ λ t. on-ok (forth (c .rule) 1 (omega arith))
+    by use-rule a s = one _ _ λ t. on-ok (forth (c .rule) 1 (omega arith))
+    by move-rule a s = one _ _ λ t. on-ok (forth (c .rule) 1 (omega arith))
+    by write-rule a s = one _ _ λ t. one _ _ λ t. on-ok (forth (c .rule) 1 (omega arith))
+    by for-rule a s = one _ _ λ t. on-ok (forth (c .rule) (suc (row-count K)) (omega arith))
+    by if-rule a s = on-ok (forth (c .rule) 1 (omega arith))
+    by else-rule a s = at-block-else (c .opened)
+    by end-rule a s = at-block-end (c .opened)
+    by no-rule a s = on-stop
+
+-- a walk that may take more rules than are left
+same-walk : (K : Kernel) (n m : ℕ) (c : Stand) → length (K .derivation) ≤ c .rule + n → length (K .derivation) ≤ c .rule + m → walk K n c ≡ walk K m c
+unfolding walk
+same-walk K zero zero c h k = refl
+same-walk K zero (suc m) c h k = sym (over (leb (length (K .derivation)) (c .rule)) (le-leb (length (K .derivation)) (c .rule) (omega arith)))
+  where
+    over : (t : Bool) → t ≡ true → _≡_ {A = Result Break (Unit {0})} (elim t [ true ↦ finish K c | false ↦ take-rule K c >>= walk K m ]) (finish K c)
+    over true e = refl
+    over false e = absurd (false≢true e)
+same-walk K (suc n) zero c h k = over (leb (length (K .derivation)) (c .rule)) (le-leb (length (K .derivation)) (c .rule) (omega arith))
+  where
+    over : (t : Bool) → t ≡ true → _≡_ {A = Result Break (Unit {0})} (elim t [ true ↦ finish K c | false ↦ take-rule K c >>= walk K n ]) (finish K c)
+    over true e = refl
+    over false e = absurd (false≢true e)
+same-walk K (suc n) (suc m) c h k = by (leb (length (K .derivation)) (c .rule)) (λ d l. same-walk K n m d (omega arith) (omega arith))
+  where
+    by : (t : Bool) → ((d : Stand) → c .rule < d .rule → walk K n d ≡ walk K m d)
+        → _≡_ {A = Result Break (Unit {0})} (elim t [ true ↦ finish K c | false ↦ take-rule K c >>= walk K n ]) (elim t [ true ↦ finish K c | false ↦ take-rule K c >>= walk K m ])
+    by true r = refl
+    by false r = onward (take-rule K c) (taken-forth K c) r
+      where
+        onward : (x : Result Break Stand) → On (λ d. c .rule < d .rule) x → ((d : Stand) → c .rule < d .rule → walk K n d ≡ walk K m d) → (x >>= walk K n) ≡ (x >>= walk K m)
+        onward (ok d) l r = unfold _>>=_ in r d (l .on)
+        onward (stop b) l r = unfold _>>=_ in refl
+
+pub enough-rules : EnoughRules
+unfolding check-kernel beginning
+enough-rules K n h = same-walk K n (length (K .derivation)) (beginning K) (omega arith) (omega arith)
+
+-- ---- lengths
+
+-- the length of the output, ended or stuck
+abbrev Keeps : ℕ → Result Stuck State → Type 0
+Keeps n (ok s) = length (s .output) ≡ n
+Keeps n (stop (stuck r i s)) = length (s .output) ≡ n
+
+-- an operation either changes no output cell or changes one
+performed-length : (e : World) (cs : List ℤ) (o : Op) (s : State) → On (λ s′. length (s′ .output) ≡ length (s .output)) (perform e cs o s)
+unfolding perform put advance keep
+performed-length e cs (set p f) s = on-ok refl
+performed-length e cs (copy p q) s = on-then _ (on-any {P = λ _. Unit {0}} (λ t. tt)) λ w u. on-ok refl
+performed-length e cs (work o p q k) s =
+    on-then _ (on-any {P = λ _. Unit {0}} (λ t. tt)) λ a u. on-then _ (on-any {P = λ _. Unit {0}} (λ t. tt)) λ b u. on-then _ (on-any {P = λ _. Unit {0}} (λ t. tt)) λ w u. on-ok refl
+performed-length e cs (load p q f) s = on-then _ (on-any {P = λ _. Unit {0}} (λ t. tt)) λ i u. on-ok refl
+performed-length e cs (store p q f) s =
+    on-then _ (on-any {P = λ _. Unit {0}} (λ t. tt)) λ w u. on-then _ (on-any {P = λ _. Unit {0}} (λ t. tt)) λ i u. on-ok (length-set (s .output) (e .base q + i) w)
+performed-length e cs (read p q) s = on-then _ (on-any {P = λ _. Unit {0}} (λ t. tt)) λ i u. on-ok refl
+performed-length e cs (write p q) s =
+    on-then _ (on-any {P = λ _. Unit {0}} (λ t. tt)) λ w u. on-then _ (on-any {P = λ _. Unit {0}} (λ t. tt)) λ i u. on-ok (length-set (s .output) (e .base q + i) w)
+
+keeps-then : {n : ℕ} (r : Result Stuck State) (f : State → Result Stuck State) → Keeps n r → ((s : State) → length (s .output) ≡ n → Keeps n (f s)) → Keeps n (r >>= f)
+unfolding _>>=_
+keeps-then (ok s) f h k = k s h
+keeps-then (stop (stuck r i s)) f h k = h
+
+step-keeps : {n : ℕ} (e : World) (i : ℕ) (o : Op) (c : Around) (s : State) → length (s .output) ≡ n → Keeps n (step e i o c s)
+unfolding step because
+step-keeps {n} e i o c s h = by (perform e (c .counters) o s) (performed-length e (c .counters) o s)
+  where
+    by : (r : Result ℕ State) → On (λ s′. length (s′ .output) ≡ length (s .output)) r → Keeps n (because (λ reason. stuck reason i s) r)
+    by (ok s′) k = k .on ∙ h
+    by (stop r) k = h
+
+repeat-keeps : {n : ℕ} (f : ℕ → State → Result Stuck State) → ((m : ℕ) (s : State) → length (s .output) ≡ n → Keeps n (f m s)) → (k m : ℕ) (s : State) → length (s .output) ≡ n → Keeps n (repeat f k m s)
+unfolding repeat
+repeat-keeps f g zero m s h = h
+repeat-keeps f g (suc k) m s h = keeps-then (f m s) (repeat f k (m + 1)) (g m s h) (λ s′ h′. repeat-keeps f g k (m + 1) s′ h′)
+
+choose-keeps : {n : ℕ} (i p : ℕ) (f g : State → Result Stuck State) → ((s : State) → length (s .output) ≡ n → Keeps n (f s)) → ((s : State) → length (s .output) ≡ n → Keeps n (g s)) → (s : State) → length (s .output) ≡ n → Keeps n (choose i p f g s)
+unfolding choose because _>>=_
+choose-keeps {n} i p f g hf hg s h = by (get p s)
+  where
+    pick : (t : Bool) → Keeps n (cond t g f s)
+    pick true = hg s h
+    pick false = hf s h
+
+    by : (r : Result ℕ ℕ) → Keeps n (because (λ reason. stuck reason i s) r >>= λ w. cond (eqb w 0) g f s)
+    by (ok w) = pick (eqb w 0)
+    by (stop r) = h
+
+run-keeps : {n : ℕ} (e : World) (t : Block) (c : Around) (s : State) → length (s .output) ≡ n → Keeps n (run e t c s)
+unfolding run
+run-keeps e (stops i) c s h = h
+run-keeps e (plain i o rest) c s h = keeps-then (step e i o c s) (λ s. run e rest c s) (step-keeps e i o c s h) (λ s′ h′. run-keeps e rest c s′ h′)
+run-keeps e (loop i l body rest) c s h =
+    keeps-then (repeat (λ m s. run e body (in-pass l c m) s) (l .passes) 0 s) (λ s. run e rest c s)
+    (repeat-keeps (λ m s. run e body (in-pass l c m) s) (λ m s′ h′. run-keeps e body (in-pass l c m) s′ h′) (l .passes) 0 s h) (λ s′ h′. run-keeps e rest c s′ h′)
+run-keeps e (branch i p first second rest) c s h =
+    keeps-then (choose i p (λ s. run e first c s) (λ s. run e second c s) s) (λ s. run e rest c s)
+    (choose-keeps i p (λ s. run e first c s) (λ s. run e second c s) (λ s′ h′. run-keeps e first c s′ h′) (λ s′ h′. run-keeps e second c s′ h′) s h) (λ s′ h′. run-keeps e rest c s′ h′)
+
+ran-length : (K : Kernel) {n : ℕ} (r : Result Stuck State) → Keeps n r → length (ran K r .memory) ≡ n
+unfolding ran
+ran-length K (ok s) h = h
+ran-length K (stop (stuck r i s)) h = h
+
+pub lengths-kept : (K : Kernel) (memory : List ℕ) → LengthsKept K memory
+unfolding array-ran stream-ran start
+lengths-kept K memory = record {
+  array-run = ran-length K _ (run-keeps (world length-of K memory) (tree (K .array-program)) outside (start length-of K) (length-replicate {A = ℕ} (total output length-of K) 0));
+  stream-run = ran-length K _ (run-keeps (world count-of K memory) (tree (K .stream-program)) outside (start count-of K) (length-replicate {A = ℕ} (total output count-of K) 0));
+}
+
+-- ---- steps
+
+after-most : (r : Result Stuck State) (n : ℕ) (f : State → ℕ) → ((s : State) → f s ≤ n) → after r f ≤ n
+unfolding after
+after-most (ok s) n f h = h s
+after-most (stop b) n f h = omega arith
+
+passes-most : (f : ℕ → State → Result Stuck State) (g : ℕ → State → ℕ) (b : ℕ) → ((m : ℕ) (s : State) → g m s ≤ b) → (n m : ℕ) (s : State) → pass-steps f g n m s ≤ n * suc b
+unfolding pass-steps
+passes-most f g b h zero m s = omega arith
+passes-most f g b h (suc n) m s =
+    let first = h m s in
+    let rest = after-most (f m s) (suc (n * suc b)) (λ s. suc (pass-steps f g n (m + 1) s)) (λ s′. let r = passes-most f g b h n (m + 1) s′ in omega arith) in
+    omega (arith, NatL.suc-mul n (suc b))
+
+chosen-most : (r : Result ℕ ℕ) (a b n m : ℕ) → a ≤ n → b ≤ m → chosen-steps r a b ≤ n + m
+unfolding chosen-steps
+chosen-most (ok w) a b n m h k = by (eqb w 0)
+  where
+    by : (t : Bool) → cond t b a ≤ n + m
+    by true = omega arith
+    by false = omega arith
+chosen-most (stop r) a b n m h k = omega arith
+
+steps-most : (e : World) (t : Block) (c : Around) (s : State) → steps e t c s ≤ allowed t
+unfolding steps allowed
+steps-most e (stops i) c s = omega arith
+steps-most e (plain i o rest) c s = let r = after-most (step e i o c s) (allowed rest) (λ s. steps e rest c s) (λ s′. steps-most e rest c s′) in omega arith
+steps-most e (loop i l body rest) c s =
+    let p = passes-most (λ m s. run e body (in-pass l c m) s) (λ m s. steps e body (in-pass l c m) s) (allowed body) (λ m s′. steps-most e body (in-pass l c m) s′) (l .passes) 0 s in
+    let r = after-most (repeat (λ m s. run e body (in-pass l c m) s) (l .passes) 0 s) (allowed rest) (λ s. steps e rest c s) (λ s′. steps-most e rest c s′) in
+    omega arith
+steps-most e (branch i p first second rest) c s =
+    let q = chosen-most (get p s) (steps e first c s) (steps e second c s) (allowed first) (allowed second) (steps-most e first c s) (steps-most e second c s) in
+    let r = after-most (choose i p (λ s. run e first c s) (λ s. run e second c s) s) (allowed rest) (λ s. steps e rest c s) (λ s′. steps-most e rest c s′) in
+    omega arith
+
+-- P: the passes of the loops around
+plain-few : (P r i j : ℕ) → P ≤ 65536 → P * r + 65536 * suc i ≤ 65536 * j → P * suc r + 65536 * i ≤ 65536 * j
+plain-few P r i j few h = omega (arith, NatL.mul-suc P r)
+
+loop-few : (P p b r i e j : ℕ) → P ≤ 65536 → p * P ≤ 65536 → p * P * b + 65536 * suc i ≤ 65536 * e → P * r + 65536 * suc e ≤ 65536 * j → P * suc (p * suc b + r) + 65536 * i ≤ 65536 * j
+loop-few P p b r i e j few more inner outer =
+    let times : P * (p * suc b) ≡ p * P * b + p * P = sym (NatL.mul-assoc P p (suc b)) ∙ ap (λ n. n * suc b) (NatL.mul-comm P p) ∙ NatL.mul-suc (p * P) b in
+    omega (arith, NatL.mul-suc P (p * suc b + r), NatL.mul-add P (p * suc b) r)
+
+branch-few : (P f s r i m e j : ℕ) → P ≤ 65536 → P * f + 65536 * suc i ≤ 65536 * m → P * s + 65536 * suc m ≤ 65536 * e → P * r + 65536 * suc e ≤ 65536 * j → P * suc (f + s + r) + 65536 * i ≤ 65536 * j
+branch-few P f s r i m e j few a b c = omega (arith, NatL.mul-suc P (f + s + r), NatL.mul-add P (f + s) r, NatL.mul-add P f s)
+
+-- the passes of the loops around, times what a block allows, are at most 65,536 for each of its records
+few-allowed : (c : Scope) (rs : List Rec) (t : Block) (os : List Open) (i j : ℕ) → all-passes os ≤ 65536 → IsBlock c rs t os i j → (i ≤ j) × (all-passes os * allowed t + 65536 * i ≤ 65536 * j)
+unfolding IsBlock allowed all-passes
+few-allowed c rs (stops n) os i j few h = (omega (arith, h .here), omega (arith, h .here, NatL.mul-zero (all-passes os)))
+few-allowed c rs (plain n o rest) os i j few h =
+    let (l, r) = few-allowed c rs rest os (suc i) j few (h .rest) in
+    (omega arith, plain-few (all-passes os) (allowed rest) i j few r)
+few-allowed c rs (loop n l body rest) os i j few h =
+    let (l₁, r₁) = few-allowed c rs body (Reading.in-for (l .passes) ∷ os) (suc i) (h .end-at) (h .room .passes) (h .body) in
+    let (l₂, r₂) = few-allowed c rs rest os (suc (h .end-at)) j few (h .rest) in
+    (omega arith, loop-few (all-passes os) (l .passes) (allowed body) (allowed rest) i (h .end-at) j few (h .room .passes) r₁ r₂)
+few-allowed c rs (branch n p first second rest) os i j few h =
+    let (l₁, r₁) = few-allowed c rs first (Reading.in-if ∷ os) (suc i) (h .else-at) few (h .first) in
+    let (l₂, r₂) = few-allowed c rs second (Reading.in-else ∷ os) (suc (h .else-at)) (h .end-at) few (h .second) in
+    let (l₃, r₃) = few-allowed c rs rest os (suc (h .end-at)) j few (h .rest) in
+    (omega arith, branch-few (all-passes os) (allowed first) (allowed second) (allowed rest) i (h .else-at) (h .end-at) j few r₁ r₂ r₃)
+
+few-steps : (K : Kernel) (c : Scope) (rs : List Rec) → Nested c [] rs → FewSteps K rs
+unfolding all-passes
+few-steps K c rs n = record {
+  as-allowed = λ e s. steps-most e (tree rs) outside s;
+  each-few = let (l, r) = few-allowed c rs (tree rs) [] 0 (length rs) (omega arith) (one-tree c rs n .is-one) in omega (arith, NatL.one-mul (allowed (tree rs)));
+}
+
+pub ends : Ends
+ends = record {
+  enough-rules = enough-rules;
+  enough-digits = enough-digits;
+  lengths-kept = lengths-kept;
+  few-array-steps = λ file K e. few-steps K (array-scope K) (K .array-program) (on-at (file-reads file) e .array-program);
+  few-stream-steps = λ file K e. few-steps K (stream-scope K) (K .stream-program) (on-at (file-reads file) e .stream-program);
+}
