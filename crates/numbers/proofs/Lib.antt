@@ -4,3 +4,5 @@ pub mod Ring
 pub mod Order
 pub mod Tests
 pub mod Results
+pub mod Areas
+pub mod Signs

@@ -1,3 +1,4 @@
 pub mod Result
 pub mod Lists
 pub mod Words
+pub mod Areas

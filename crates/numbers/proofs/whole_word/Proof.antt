@@ -1,0 +1,95 @@
+-- `numbers::whole_word` meets its contract: the four bytes are those of the word.
+use Rattle.numbers.proofs.Areas.{word-at}
+use Prim.Native.Nat.{_+_, _*_}
+use mathlib.Core.Path.{ap, ap₂, _∙_}
+use borrow.Author.Needs.{needs}
+use Rattle.numbers.proofs.whole_word.Statement.{statement}
+use Rattle.numbers.proofs.whole_word.Tie as tie
+
+mul-a : tie.Need-mul-a
+mul-a c = search needs
+
+shared-slice-read-wide : tie.Need-shared-slice-read-wide
+shared-slice-read-wide c = search needs
+
+wide-requires : tie.Need-wide-requires
+wide-requires c κs = search needs
+
+add-wide : tie.Need-add-wide
+add-wide c = search needs
+
+shared-slice-read-wide-2 : tie.Need-shared-slice-read-wide-2
+shared-slice-read-wide-2 c = search needs
+
+wide-requires-2 : tie.Need-wide-requires-2
+wide-requires-2 c κs = search needs
+
+mul-result : tie.Need-mul-result
+mul-result c = search needs
+
+add-result : tie.Need-add-result
+add-result c = search needs
+
+add-wide-2 : tie.Need-add-wide-2
+add-wide-2 c = search needs
+
+shared-slice-read-wide-3 : tie.Need-shared-slice-read-wide-3
+shared-slice-read-wide-3 c = search needs
+
+wide-requires-3 : tie.Need-wide-requires-3
+wide-requires-3 c κs = search needs
+
+mul-result-2 : tie.Need-mul-result-2
+mul-result-2 c = search needs
+
+add-result-2 : tie.Need-add-result-2
+add-result-2 c = search needs
+
+add-wide-3 : tie.Need-add-wide-3
+add-wide-3 c = search needs
+
+shared-slice-read-wide-4 : tie.Need-shared-slice-read-wide-4
+shared-slice-read-wide-4 c = search needs
+
+wide-requires-4 : tie.Need-wide-requires-4
+wide-requires-4 c κs = search needs
+
+mul-result-3 : tie.Need-mul-result-3
+mul-result-3 c = search needs
+
+add-result-3 : tie.Need-add-result-3
+add-result-3 c = search needs
+
+returns : tie.Need-returns
+returns c =
+    let s = c .before .before .before .before .before .before .before .before .before in
+    ap₂ _+_
+    (ap₂ _+_
+    (ap₂ _+_ (c .before .before .before .before .before .before .wide .ensures .0) (ap (λ x. x * 256) (c .before .before .before .before .wide2 .ensures .0)))
+    (ap (λ x. x * 65536) (c .before .before .wide3 .ensures .0)))
+    (ap (λ x. x * 16777216) (c .wide4 .ensures .0))
+    ∙ word-at (s .args .area .now) (s .args .i) (s .pre)
+
+pub whole-word-spec : {M : Type 1} → statement M
+whole-word-spec =
+    tie.close
+    (tie.spec
+    mul-a
+    shared-slice-read-wide
+    wide-requires
+    add-wide
+    shared-slice-read-wide-2
+    wide-requires-2
+    mul-result
+    add-result
+    add-wide-2
+    shared-slice-read-wide-3
+    wide-requires-3
+    mul-result-2
+    add-result-2
+    add-wide-3
+    shared-slice-read-wide-4
+    wide-requires-4
+    mul-result-3
+    add-result-3
+    returns)

@@ -1,0 +1,18 @@
+-- A byte area as a row of words, as code reads and changes it.
+use Prim.Native.Nat.{ℕ, _+_, _*_, _/_, _%_, _^_}
+use mathlib.Core.Bool.{cond}
+use mathlib.Core.List.{List}
+use lib.Dec.{ltb}
+use lib.ListN.{length, getD, set}
+use Rattle.numbers.specs.Words.{words}
+
+-- word i of an area, and 0 past its last
+unfoldable pub word : List ℕ → (i : ℕ) → ℕ
+word area i = getD (words area) i 0
+
+-- word i of an area changed to w; nothing past its last
+unfoldable pub put-word : List ℕ → (i w : ℕ) → List ℕ
+put-word area i w =
+    cond (ltb i (length area / 4))
+    (set (set (set (set area (i * 4) (w % 256)) (i * 4 + 1) (w / 2 ^ 8 % 256)) (i * 4 + 2) (w / 2 ^ 16 % 256)) (i * 4 + 3) (w / 2 ^ 24 % 256))
+    area
