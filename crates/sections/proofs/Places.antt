@@ -1,0 +1,98 @@
+-- Rows of numbers from a place on: what stands there and what follows, what a count is there, and a record.
+use Prim.Native.Nat.{ℕ, zero, suc, _+_, _/_, _<_, _≤_}
+use mathlib.Core.Path.{_≡_, refl, sym, ap, _∙_}
+use mathlib.Core.Bool.{Bool, true, false, cond}
+use mathlib.Core.List.{List, [], _∷_}
+use native.Mathlib.Omega.{arith}
+use native.Mathlib.Nat.{add-zero}
+use lib.Dec.{ltb}
+use lib.ListN.{length, getD, take, drop, length-drop, drop-of-length-le}
+use lib.Seq.{getD-drop}
+use borrow.Author.Tests.{ltb-true, ltb-false}
+use Rattle.numbers.specs.Result.{Result, ok, stop, _>>=_, need}
+use Rattle.numbers.specs.Words.{words, between}
+use Rattle.numbers.specs.Areas.{word}
+use Rattle.numbers.proofs.Areas.{words-length}
+use Rattle.kernel.specs.File.{record-of}
+use Rattle.kernel.specs.Reading.{Fault, fault, count}
+use Rattle.sections.specs.declared.Step.{Step}
+use Rattle.sections.specs.declared.Step.the-variants.{Number, End}
+use Rattle.sections.specs.View.{step}
+
+drop-from : (ws : List ℕ) (p : ℕ) → p < length ws → drop p ws ≡ getD ws p 0 ∷ drop (suc p) ws
+drop-from [] p h = absurd (omega arith)
+drop-from (w ∷ ws) zero h = refl
+drop-from (w ∷ ws) (suc p) h = drop-from ws p (omega arith)
+
+-- what stands at a place, and what follows
+pub drop-there : (ws : List ℕ) (p : ℕ) → p < length ws → drop p ws ≡ getD ws p 0 ∷ drop (p + 1) ws
+drop-there ws p h =
+    let e : suc p ≡ p + 1 = omega arith in
+    drop-from ws p h ∙ ap (λ n. getD ws p 0 ∷ drop n ws) e
+
+-- ---- a count
+
+-- a count at n that stands in its range
+abbrev pub ranged : (s low high n : ℕ) → List ℕ → Result Fault (ℕ × List ℕ)
+ranged s low high n ws = do
+  _ ← need (fault 2 s 0) (between low high n)
+  ok (n, ws)
+
+module _ (file : List ℕ) (p s low high : ℕ) where
+  count-there : p < length file / 4 → count s low high (drop p (words file)) ≡ ranged s low high (word file p) (drop (p + 1) (words file))
+  unfolding count word
+  count-there h = ap (count s low high) (drop-there (words file) p (omega (arith, words-length file)))
+
+  count-past : length file / 4 ≤ p → count s low high (drop p (words file)) ≡ stop (fault 1 0 0)
+  unfolding count
+  count-past h = ap (count s low high) (drop-of-length-le (words file) {i = p} (omega (arith, words-length file)))
+
+  -- the number of a step, by any other name
+  number : Step → ℕ
+  number (Number n) = n
+  number End = 0
+
+  pub count-number : (n : ℕ) → Number n ≡ step file p → count s low high (drop p (words file)) ≡ ranged s low high n (drop (p + 1) (words file))
+  unfolding step number
+  count-number n e = by (ltb p (length file / 4)) refl
+    where
+      by : (t : Bool) → ltb p (length file / 4) ≡ t → count s low high (drop p (words file)) ≡ ranged s low high n (drop (p + 1) (words file))
+      by true t =
+          count-there (ltb-true p (length file / 4) t)
+          ∙ ap (λ n. ranged s low high n (drop (p + 1) (words file))) (sym (ap number (e ∙ ap (λ t. cond t (Number (word file p)) End) t)))
+      by false t =
+          let clash : Number n ≡ End = e ∙ ap (λ t. cond t (Number (word file p)) End) t in
+          let z : _≡_ {A = ℕ} 0 1 = cc in
+          absurd (omega arith)
+
+  pub count-end : End ≡ step file p → count s low high (drop p (words file)) ≡ stop (fault 1 0 0)
+  unfolding step
+  count-end e = by (ltb p (length file / 4)) refl
+    where
+      by : (t : Bool) → ltb p (length file / 4) ≡ t → count s low high (drop p (words file)) ≡ stop (fault 1 0 0)
+      by true t =
+          let clash : End ≡ Number (word file p) = e ∙ ap (λ t. cond t (Number (word file p)) End) t in
+          let z : _≡_ {A = ℕ} 0 1 = cc in
+          absurd (omega arith)
+      by false t = count-past (ltb-false p (length file / 4) t)
+
+-- ---- a record
+
+-- its eight numbers
+eight : (ws : List ℕ) → 8 ≤ length ws
+    → take 8 ws ≡ getD ws 0 0 ∷ getD ws 1 0 ∷ getD ws 2 0 ∷ getD ws 3 0 ∷ getD ws 4 0 ∷ getD ws 5 0 ∷ getD ws 6 0 ∷ getD ws 7 0 ∷ []
+eight [] h = absurd (omega arith)
+eight (a ∷ []) h = absurd (omega arith)
+eight (a ∷ b ∷ []) h = absurd (omega arith)
+eight (a ∷ b ∷ c ∷ []) h = absurd (omega arith)
+eight (a ∷ b ∷ c ∷ d ∷ []) h = absurd (omega arith)
+eight (a ∷ b ∷ c ∷ d ∷ e ∷ []) h = absurd (omega arith)
+eight (a ∷ b ∷ c ∷ d ∷ e ∷ f ∷ []) h = absurd (omega arith)
+eight (a ∷ b ∷ c ∷ d ∷ e ∷ f ∷ g ∷ []) h = absurd (omega arith)
+eight (a ∷ b ∷ c ∷ d ∷ e ∷ f ∷ g ∷ i ∷ ws) h = refl
+
+pub record-there : (ws : List ℕ) (p : ℕ) → p + 8 ≤ length ws
+    → record { code = getD ws p 0; p = getD ws (p + 1) 0; q = getD ws (p + 2) 0; k = getD ws (p + 3) 0; x = getD ws (p + 4) 0 ∷ getD ws (p + 5) 0 ∷ getD ws (p + 6) 0 ∷ getD ws (p + 7) 0 ∷ [] }
+    ≡ record-of (take 8 (drop p ws))
+unfolding record-of
+record-there ws p h = sym (ap record-of (eight (drop p ws) (simp length-drop (omega arith))) ∙ simp (getD-drop, add-zero) refl)
