@@ -24,7 +24,7 @@ use Rattle.kernel.proofs.Guarantees.{ArrayFits, FormSmall, OnSide, Loop
 
 -- ---- counts
 
-length-records : (n : ℕ) (ws : List ℕ) → length (records n ws) ≡ n
+pub length-records : (n : ℕ) (ws : List ℕ) → length (records n ws) ≡ n
 unfolding records
 length-records zero ws = refl
 length-records (suc n) ws = ap suc (length-records n (drop 8 ws))

@@ -29,7 +29,7 @@ module _ {A B : ℕ} {a b : ℤ} (h : Small A a) (k : Small B b) where
   pub small-mul : Small (A * B) (a *ℤ b)
   small-mul = record { abs = subst (λ (n : ℕ). n ≤ A * B) (sym (abs-mul a b)) (NatL.mul-le-mul (h .abs) (k .abs)) }
 
-abs-quot : (a b : ℤ) → natAbs (quotZ a b) ≡ natAbs a / natAbs b
+pub abs-quot : (a b : ℤ) → natAbs (quotZ a b) ≡ natAbs a / natAbs b
 abs-quot (pos a) (pos b) = refl
 abs-quot (pos a) (negsuc b) = abs-neg (pos (a / suc b))
 abs-quot (negsuc a) (pos b) = abs-neg (pos (suc a / b))

@@ -1,0 +1,16 @@
+-- `fields::in_four` meets its contract.
+use borrow.Author.Tests.{le-leb, lt-leb}
+use Rattle.numbers.specs.Words.{between}
+use Rattle.fields.proofs.in_four.Statement.{statement}
+use Rattle.fields.proofs.in_four.Tie as tie
+
+returns : tie.Need-returns
+unfolding between
+returns c = simp (lt-leb _ _ (c .if1 .taken))
+
+returns-2 : tie.Need-returns-2
+unfolding between
+returns-2 c = simp (le-leb _ _ (c .if1 .left))
+
+pub in-four-spec : {M : Type 1} → statement M
+in-four-spec = tie.close (tie.spec returns returns-2)
