@@ -2,3 +2,4 @@ pub mod Open
 pub mod Values
 pub mod Same
 pub mod Below
+pub mod Shared

@@ -1,23 +1,20 @@
 -- Signed numbers in 64 bits: bounds under which sums, differences, products and quotients fit, and what a word's signed number and low bits are.
 use mathlib.Core.Path.{_≡_, refl, sym, ap, subst, _∙_}
-use mathlib.Core.Bool.{Bool, true, false, cond}
+use mathlib.Core.Bool.{Bool, true, false, not, cond}
 use mathlib.Core.Logic.{_⊎_, inl, inr}
 use Prim.Native.Nat.{ℕ, suc, _+_, _*_, _-_, _/_, _%_, _^_, _<_, _≤_}
 use native.Mathlib.Nat as NatL
 use native.Mathlib.Omega.{arith}
-use lib.Dec.{T, ltb, leb, ltb→lt, leb→le, lit<}
+use lib.Dec.{T, ltb, leb, ltb→lt, nltb→le, leb→le, lit<}
 use lib.IntN.{ℤ, pos, negsuc, natAbs, _+ℤ_, _-ℤ_, _*ℤ_}
 use lib.Signed.{mag, quotZ}
 use borrow.Author.Tests.{lt-ltb, le-ltb, ltb-true, ltb-false}
 use mir.Syntax.{w64}
-use mir.Val.{SFits, toZ, ofZ}
+use mir.Val.{SFits, toZ, ofZ, sel}
 use mir.Facts.{toZ-ofZ}
+use Rattle.numbers.specs.Bounds.{Small}
 use Rattle.numbers.specs.Words.{signed, low32}
 use Rattle.numbers.proofs.Order.{abs-add, abs-neg, abs-sub, abs-mul}
-
--- a number within ±n; a record, so that both can be inferred from a fact
-pub record Small (n : ℕ) (z : ℤ) : Type 0 where
-  pub abs : natAbs z ≤ n
 
 module _ {A B : ℕ} {a b : ℤ} (h : Small A a) (k : Small B b) where
   pub small-add : Small (A + B) (a +ℤ b)
@@ -38,6 +35,9 @@ abs-quot (negsuc a) (negsuc b) = refl
 pub small-quot : {A : ℕ} {a : ℤ} (b : ℤ) → Small A a → Small A (quotZ a b)
 small-quot {A} {a} b h = record { abs = rw (abs-quot a b) (NatL.le-trans (NatL.div-le-self (natAbs a) (natAbs b)) (h .abs)) }
 
+pub small-zero : {A : ℕ} → Small A (pos 0)
+small-zero = record { abs = omega arith }
+
 pub small-pos : {n : ℕ} → n < 2 ^ 32 → Small (2 ^ 32) (pos n)
 small-pos h = record { abs = omega arith }
 
@@ -50,7 +50,23 @@ mag-abs (negsuc n) = omega arith
 abbrev pub back : ℤ → ℤ
 back z = toZ w64 (ofZ w64 z)
 
+-- of any z, in range or not
+back-abs : (z : ℤ) → natAbs (back z) ≤ natAbs z
+back-abs (pos n) = by (ltb n (2 ^ 63)) (λ t. omega arith) (λ t. let h = nltb→le n (2 ^ 63) t in omega arith)
+  where
+    by : (t : Bool) → (T t → n ≤ n) → (T (not t) → suc (2 ^ 64 - suc n) ≤ n) → natAbs (sel t (pos n) (negsuc (2 ^ 64 - suc n))) ≤ n
+    by true f g = f tt
+    by false f g = g tt
+back-abs (negsuc n) = by (ltb (2 ^ 64 - suc n) (2 ^ 63)) (λ t. let h = ltb→lt (2 ^ 64 - suc n) (2 ^ 63) t in omega arith) (λ t. omega arith)
+  where
+    by : (t : Bool) → (T t → 2 ^ 64 - suc n ≤ suc n) → (T (not t) → suc (2 ^ 64 - suc (2 ^ 64 - suc n)) ≤ suc n) → natAbs (sel t (pos (2 ^ 64 - suc n)) (negsuc (2 ^ 64 - suc (2 ^ 64 - suc n)))) ≤ suc n
+    by true f g = f tt
+    by false f g = g tt
+
 module _ {A : ℕ} {a : ℤ} (h : Small A a) where
+  pub small-back : Small A (back a)
+  small-back = record { abs = NatL.le-trans (back-abs a) (h .abs) }
+
   -- at a written-out bound the test computes: `tt`
   pub fits : T (ltb A (2 ^ 63)) → SFits w64 a
   fits t = record { sfits = NatL.lt-of-le-of-lt (mag-abs a) (NatL.lt-of-le-of-lt (h .abs) (ltb→lt A (2 ^ 63) t)) }
@@ -61,9 +77,27 @@ module _ {A : ℕ} {a : ℤ} (h : Small A a) where
   pub wider : {B : ℕ} → T (leb A B) → Small B a
   wider {B} t = record { abs = NatL.le-trans (h .abs) (leb→le A B t) }
 
+-- what an operation on two locals gives, bounded and, where it fits, exact
+module _ {A B : ℕ} {a b : ℤ} (h : Small A a) (k : Small B b) where
+  pub sum-back : Small (A + B) (back a +ℤ back b)
+  sum-back = small-add (small-back h) (small-back k)
+
+  pub product-back : Small (A * B) (back a *ℤ back b)
+  product-back = small-mul (small-back h) (small-back k)
+
+  pub back-sum : T (ltb A (2 ^ 63)) → T (ltb B (2 ^ 63)) → T (ltb (A + B) (2 ^ 63)) → back (back a +ℤ back b) ≡ a +ℤ b
+  back-sum t u v = (λ i. back (as-it-is h t i +ℤ as-it-is k u i)) ∙ as-it-is (small-add h k) v
+
+  pub back-product : T (ltb A (2 ^ 63)) → T (ltb B (2 ^ 63)) → T (ltb (A * B) (2 ^ 63)) → back (back a *ℤ back b) ≡ a *ℤ b
+  back-product t u v = (λ i. back (as-it-is h t i *ℤ as-it-is k u i)) ∙ as-it-is (small-mul h k) v
+
 -- a callee's result, from its `ok`
 pub as-returned : {z : ℤ} → mag z < 2 ^ 63 → back z ≡ z
 as-returned p = toZ-ofZ (record { sfits = p })
+
+-- a test `==` of two signed locals is one of their bits
+pub same-bits : {a b : ℤ} → SFits w64 a → SFits w64 b → ofZ w64 a ≡ ofZ w64 b → a ≡ b
+same-bits f g e = sym (toZ-ofZ f) ∙ ap (toZ w64) e ∙ toZ-ofZ g
 
 -- ---- words
 

@@ -81,6 +81,13 @@ equal-refl (negsuc a) = eq-eqb a a refl
 pub eq-equal : {a b : ℤ} → a ≡ b → equal a b ≡ true
 eq-equal {a} e = subst (λ b. equal a b ≡ true) e (equal-refl a)
 
+pub not-equal : {a b : ℤ} → (a ≡ b → ⊥) → equal a b ≡ false
+not-equal {a} {b} h = by (equal a b) refl
+  where
+    by : (t : Bool) → equal a b ≡ t → t ≡ false
+    by true e = absurd (h (equal-eq a b e))
+    by false e = refl
+
 -- ---- rows
 
 module _ {A : Type 0} (t : A → Bool) where

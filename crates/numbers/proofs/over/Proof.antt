@@ -3,8 +3,9 @@ use mathlib.Core.Path.{_≡_, _∙_, ap}
 use Prim.Native.Nat.{_^_}
 use borrow.Author.Needs.{needs}
 use lib.Signed.{quotZ}
+use Rattle.numbers.specs.Bounds.{Small}
 use Rattle.numbers.specs.Words.{signed, low32, over}
-use Rattle.numbers.proofs.Signs.{Small, back, fits, as-it-is, as-returned, small-signed, small-quot, not-zero}
+use Rattle.numbers.proofs.Signs.{back, fits, as-it-is, as-returned, small-signed, small-quot, not-zero}
 use Rattle.numbers.proofs.over.Statement.{statement}
 use Rattle.numbers.proofs.over.Tie as tie
 

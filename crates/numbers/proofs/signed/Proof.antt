@@ -7,7 +7,8 @@ use lib.IntN.{pos, _-ℤ_}
 use mir.Syntax.{w64}
 use mir.Val.{toZ}
 use mir.Facts.{toZ-pos}
-use Rattle.numbers.proofs.Signs.{Small, small-sub, small-pos, fits, as-it-is, back, signed-low, signed-less}
+use Rattle.numbers.specs.Bounds.{Small}
+use Rattle.numbers.proofs.Signs.{small-sub, small-pos, fits, as-it-is, back, signed-low, signed-less}
 use Rattle.numbers.proofs.signed.Statement.{statement}
 use Rattle.numbers.proofs.signed.Tie as tie
 
