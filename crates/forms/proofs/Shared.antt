@@ -1,12 +1,12 @@
 -- What the proofs of the code share: tests of bits, levels past the fourth, bounds of coefficients and terms, and the sum of the four largest terms.
-use mathlib.Core.Path.{_≡_, refl, ap}
+use mathlib.Core.Path.{_≡_, refl, ap, _∙_}
 use mathlib.Core.Bool.{Bool, true, false, cond}
 use mathlib.Core.List.{[], _∷_}
 use Prim.Native.Nat.{ℕ, zero, suc, _^_, _<_}
 use lib.Dec.{ltb}
 use lib.ListN.{take, drop}
 use lib.IntN.{ℤ, pos, _+ℤ_, _*ℤ_, +ℤ-idr}
-use lib.Signed.{leZ}
+use lib.Signed.{mag, leZ}
 use native.Mathlib.Omega.{arith}
 use borrow.Author.Tests.{ltb-true, lt-ltb}
 use mir.Syntax.{w64}
@@ -14,7 +14,7 @@ use mir.Val.{SFits, ofZ}
 use Rattle.numbers.specs.Words.{equal}
 use Rattle.numbers.specs.Lists.{every}
 use Rattle.numbers.specs.Bounds.{Small}
-use Rattle.numbers.proofs.Signs.{small-mul, small-zero, same-bits, wider}
+use Rattle.numbers.proofs.Signs.{small-mul, small-zero, back, as-it-is, as-returned, same-bits, wider}
 use Rattle.numbers.proofs.Tests.{eq-equal, not-equal}
 use Rattle.forms.specs.Form as F
 use Rattle.forms.specs.Code.{form, loop, loops, Within, Turns}
@@ -58,6 +58,14 @@ coefficient-small h (suc zero) = h .x1-small
 coefficient-small h (suc (suc zero)) = h .x2-small
 coefficient-small h (suc (suc (suc zero))) = h .x3-small
 coefficient-small h (suc (suc (suc (suc n)))) = small-zero
+
+-- the constant with a level's term at v added, as the next call reads it
+module _ {f : Form} {v x : ℤ} (level : ℕ) (h : Within (2 ^ 50) (2 ^ 33) f) (k : Small (2 ^ 17) v) (x-is : x ≡ F.coefficient level (form f)) where
+  pub term-small : Small (2 ^ 33) x
+  term-small = rw x-is (coefficient-small h level)
+
+  pub plus-term : {r : ℤ} → mag r < 2 ^ 63 → r ≡ back (f .k) +ℤ back x *ℤ back v → back r ≡ f .k +ℤ F.coefficient level (form f) *ℤ v
+  plus-term ok r-is = as-returned ok ∙ r-is ∙ (λ i. as-it-is (h .k-small) tt i +ℤ (as-it-is term-small tt ∙ x-is) i *ℤ as-it-is k tt i)
 
 -- ---- terms at their larger end
 

@@ -9,21 +9,18 @@ use Rattle.forms.proofs.Shared.{apart, together}
 use Rattle.forms.proofs.zeros.Statement.{statement}
 use Rattle.forms.proofs.zeros.Tie as tie
 
-module _ (c : tie.Else1) where
-  first : equal (pos 0) (c .before .args .a) ≡ true
-  first = together (search needs) (search needs) (sym (c .if1 .left))
+-- what each test left
+first : (c : tie.Else1) → equal (pos 0) (c .before .args .a) ≡ true
+first c = together (search needs) (search needs) (sym (c .if1 .left))
 
-module _ (c : tie.Else2) where
-  second : equal (pos 0) (c .before .before .args .b) ≡ true
-  second = together (search needs) (search needs) (sym (c .if2 .left))
+second : (c : tie.Else2) → equal (pos 0) (c .before .before .args .b) ≡ true
+second c = together (search needs) (search needs) (sym (c .if2 .left))
 
-module _ (c : tie.Else3) where
-  third : equal (pos 0) (c .before .before .before .args .c) ≡ true
-  third = together (search needs) (search needs) (sym (c .if3 .left))
+third : (c : tie.Else3) → equal (pos 0) (c .before .before .before .args .c) ≡ true
+third c = together (search needs) (search needs) (sym (c .if3 .left))
 
-module _ (c : tie.Else4) where
-  fourth : equal (pos 0) (c .before .before .before .before .args .d) ≡ true
-  fourth = together (search needs) (search needs) (sym (c .if4 .left))
+fourth : (c : tie.Else4) → equal (pos 0) (c .before .before .before .before .args .d) ≡ true
+fourth c = together (search needs) (search needs) (sym (c .if4 .left))
 
 returns : tie.Need-returns
 unfolding every

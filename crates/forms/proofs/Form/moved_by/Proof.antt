@@ -1,44 +1,33 @@
 -- `forms::Form::moved_by` meets its contract.
-use mathlib.Core.Path.{_≡_, _∙_}
-use Prim.Native.Nat.{_^_}
+use mathlib.Core.Path.{_∙_}
 use borrow.Author.Needs.{needs}
-use lib.IntN.{_+ℤ_, _*ℤ_}
-use Rattle.numbers.specs.Bounds.{Small}
-use Rattle.numbers.proofs.Signs.{back, small-back, as-it-is, as-returned}
+use Rattle.numbers.proofs.Signs.{small-back}
 use Rattle.forms.specs.Form as F
 use Rattle.forms.specs.Code.{form}
-use Rattle.forms.proofs.Shared.{coefficient-small}
+use Rattle.forms.proofs.Shared.{term-small, plus-term}
 use Rattle.forms.proofs.Form.moved_by.Statement.{statement}
 use Rattle.forms.proofs.Form.moved_by.Tie as tie
 
 coefficient-requires : tie.Need-coefficient-requires
 coefficient-requires c κs = search needs
 
--- the coefficient that the call gives is within the form's bound
-small : (a : tie.After-coefficient) → Small (2 ^ 33) (a .coefficient .result)
-small a = rw (a .coefficient .ensures) (coefficient-small (a .before .pre .0) (a .before .args .level))
-
 plus-times-requires : tie.Need-plus-times-requires
-plus-times-requires c κs = let p = c .before .before .pre in (small-back (p .0 .k-small), (small-back (small (c .before)), small-back (p .1)))
+plus-times-requires c κs =
+    let s = c .before .before in
+    let x-small = term-small (s .args .level) (s .pre .0) (s .pre .1) (c .before .coefficient .ensures) in
+    (small-back (s .pre .0 .k-small), (small-back x-small, small-back (s .pre .1)))
 
 with-k-requires : tie.Need-with-k-requires
 with-k-requires c κs = search needs
 
--- the new constant, as the next call reads it
-module _ (p : tie.After-plus-times) where
-  abbrev start : tie.Start
-  start = p .before .before .before
-
-  k-is : back (p .plus-times .result) ≡ start .args .self .k +ℤ F.coefficient (start .args .level) (form (start .args .self)) *ℤ start .args .step
-  k-is =
-      let a = p .before .before in
-      let x-is = as-it-is (small a) tt ∙ a .coefficient .ensures in
-      as-returned {z = p .plus-times .result} (p .plus-times .ok) ∙ p .plus-times .ensures
-      ∙ (λ i. as-it-is (start .pre .0 .k-small) tt i +ℤ x-is i *ℤ as-it-is (start .pre .1) tt i)
-
 returns : tie.Need-returns
 unfolding F.moved-by
-returns c = c .with-k .ensures ∙ (λ i. record { k = k-is (c .before) i; x = form (start (c .before) .args .self) .x })
+returns c =
+    let p = c .before in
+    let a = p .before .before in
+    let s = a .before in
+    let k-is = plus-term (s .args .level) (s .pre .0) (s .pre .1) (a .coefficient .ensures) {r = p .plus-times .result} (p .plus-times .ok) (p .plus-times .ensures) in
+    c .with-k .ensures ∙ (λ i. record { k = k-is i; x = form (s .args .self) .x })
 
 pub moved-by-spec : {M : Type 1} → statement M
 moved-by-spec = tie.close (tie.spec coefficient-requires plus-times-requires with-k-requires returns)
