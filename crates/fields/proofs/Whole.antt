@@ -14,7 +14,8 @@ use mir.Facts.{toZ-ofZ}
 use Rattle.numbers.specs.Words.{equal}
 use Rattle.numbers.proofs.Order.{abs-mul}
 use Rattle.numbers.proofs.Tests.{eq-equal, equal-eq}
-use Rattle.numbers.proofs.Signs.{Small, small-sub, small-quot, back, fits, as-it-is, abs-quot}
+use Rattle.numbers.specs.Bounds.{Small}
+use Rattle.numbers.proofs.Signs.{small-sub, small-quot, back, fits, as-it-is, abs-quot}
 use Rattle.kernel.specs.File.{whole}
 
 -- ---- `whole`, by the quotient

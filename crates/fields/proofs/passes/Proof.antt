@@ -5,7 +5,8 @@ use native.Mathlib.Nat as NatL
 use lib.IntN.{ℤ, _-ℤ_}
 use borrow.Author.Needs.{needs}
 use Rattle.numbers.specs.Words.{signed}
-use Rattle.numbers.proofs.Signs.{Small, small-signed}
+use Rattle.numbers.specs.Bounds.{Small}
+use Rattle.numbers.proofs.Signs.{small-signed}
 use Rattle.kernel.specs.File.{whole}
 use Rattle.fields.proofs.Whole.{sub-fits, quot-fits, mul-fits, at-zero, at-negative, at-broken, at-whole, cast-fits}
 use Rattle.fields.proofs.passes.Statement.{statement}
