@@ -276,7 +276,7 @@ code-says c (suc (suc (suc (suc (suc (suc (suc (suc (suc (suc (suc (suc n)))))))
     too-high : suc (suc (suc (suc (suc (suc (suc (suc (suc (suc (suc (suc n))))))))))) ≤ 11 → ⊥
     too-high h = omega arith
 
-statement-says : (c : Scope) (r : Rec) → statement-fits c r ≡ true → Fits c (statement r)
+pub statement-says : (c : Scope) (r : Rec) → statement-fits c r ≡ true → Fits c (statement r)
 unfolding statement-fits numbers
 statement-says c r h =
     let t = each-of (between 1 11 (r .code)) (alike (holds c) (getD table (r .code - 1) []) (r .code ∷ r .p ∷ r .q ∷ r .k ∷ r .x) ∷ has-pass (statement r) ∷ []) h in
