@@ -49,6 +49,16 @@ pub fn near(n: u32, w: u32) -> bool
     4294967295 - n < w
 }
 
+// Whether a word is one of low to high.
+pub fn between(low: u32, high: u32, w: u32) -> bool
+    ensures { λ r. ⌜ r ≡ Words.between low high w ⌝ }
+{
+    if w < low {
+        return false;
+    }
+    w <= high
+}
+
 // The code of array w, and 0 where there is none.
 pub fn side(file: &[u8], arrays: usize, w: u32) -> u32
     requires { ⌜ (arrays ≤ 8) × (3 + 8 * arrays ≤ length (now file) / 4) ⌝ }
@@ -74,19 +84,9 @@ fn holds(file: &[u8], c: Scope, kind: u8, w: u32) -> bool
         6 => side(file, c.arrays, w) == 2,
         7 => near(1048576, w),
         8 => near(65536, w),
-        9 => in_four(w),
+        9 => between(1, 4, w),
         _ => w == 0,
     }
-}
-
-// An operator's number.
-fn in_four(w: u32) -> bool
-    ensures { λ r. ⌜ r ≡ Words.between 1 4 w ⌝ }
-{
-    if w < 1 {
-        return false;
-    }
-    w <= 4
 }
 
 // Whether each of the eight numbers at a place is what the code's row of the table says.

@@ -21,8 +21,8 @@ near-requires c κs = search needs
 near-requires-2 : tie.Need-near-requires-2
 near-requires-2 c κs = search needs
 
-in-four-requires : tie.Need-in-four-requires
-in-four-requires c κs = search needs
+between-requires : tie.Need-between-requires
+between-requires c κs = search needs
 
 returns : tie.Need-returns
 unfolding Reading.holds kind-of
@@ -58,7 +58,7 @@ returns-8 c = rw (c .before .match .keys8) (c .near2 .ensures)
 
 returns-9 : tie.Need-returns-9
 unfolding Reading.holds kind-of
-returns-9 c = rw (c .before .match .keys9) (c .in-four .ensures)
+returns-9 c = rw (c .before .match .keys9) (c .between .ensures)
 
 returns-10 : tie.Need-returns-10
 unfolding Reading.holds kind-of
@@ -72,7 +72,7 @@ holds-spec =
     side-requires-2
     near-requires
     near-requires-2
-    in-four-requires
+    between-requires
     returns
     returns-2
     returns-3

@@ -1,8 +1,8 @@
--- `fields::in_four` meets its contract.
+-- `fields::between` meets its contract.
 use borrow.Author.Tests.{le-leb, lt-leb}
 use Rattle.numbers.specs.Words.{between}
-use Rattle.fields.proofs.in_four.Statement.{statement}
-use Rattle.fields.proofs.in_four.Tie as tie
+use Rattle.fields.proofs.between.Statement.{statement}
+use Rattle.fields.proofs.between.Tie as tie
 
 returns : tie.Need-returns
 unfolding between
@@ -12,5 +12,5 @@ returns-2 : tie.Need-returns-2
 unfolding between
 returns-2 c = simp (le-leb _ _ (c .if1 .left))
 
-pub in-four-spec : {M : Type 1} → statement M
-in-four-spec = tie.close (tie.spec returns returns-2)
+pub between-spec : {M : Type 1} → statement M
+between-spec = tie.close (tie.spec returns returns-2)
