@@ -3,3 +3,4 @@ pub mod Values
 pub mod Same
 pub mod Below
 pub mod Shared
+pub mod One

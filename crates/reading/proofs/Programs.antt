@@ -30,7 +30,15 @@ loop-there c r h e =
     let f = subst (λ k. Fits c (getD sayings k (λ r. none) r)) e (statement-says c r h) in
     (f .some, f .few)
 
--- ---- record i of the section that begins at p
+-- record i of the section that begins at p, and what follows
+pub record-next : (ws : List ℕ) (p count i : ℕ) → i < count
+    → drop i (records count (drop p ws)) ≡ record-of (take 8 (drop (p + 8 * i) ws)) ∷ drop (i + 1) (records count (drop p ws))
+record-next ws p count i h =
+    let e : suc i ≡ i + 1 = omega arith in
+    drop-from (records count (drop p ws)) i (omega (arith, length-records count (drop p ws)))
+    ∙ ap₂ (λ r j. r ∷ drop j (records count (drop p ws))) (records-at ws p count i h) e
+
+-- ---- one statement
 
 module _ (c : Scope) (s : ℕ) (ws : List ℕ) (p count i : ℕ) (h : i < count) (os : List Open) where
   abbrev this : Rec
@@ -39,18 +47,12 @@ module _ (c : Scope) (s : ℕ) (ws : List ℕ) (p count i : ℕ) (h : i < count)
   abbrev all : List Rec
   all = records count (drop p ws)
 
-  there : drop i all ≡ this ∷ drop (i + 1) all
-  there =
-      let e : suc i ≡ i + 1 = omega arith in
-      drop-from all i (omega (arith, length-records count (drop p ws)))
-      ∙ ap₂ (λ r j. r ∷ drop j all) (records-at ws p count i h) e
-
   opened-up : statements-fit c s i os (drop i all)
       ≡ (need (fault 3 s i) (statement-fits c this) >>= λ _. because (λ number. fault number s i) (after (statement this) os) >>= λ os. statements-fit c s (i + 1) os (drop (i + 1) all))
   unfolding statements-fit
   opened-up =
       let e : suc i ≡ i + 1 = omega arith in
-      ap (statements-fit c s i os) there
+      ap (statements-fit c s i os) (record-next ws p count i h)
       ∙ ap (λ j. need (fault 3 s i) (statement-fits c this) >>= λ _. because (λ number. fault number s i) (after (statement this) os) >>= λ os. statements-fit c s j os (drop (i + 1) all)) e
 
   pub unfit : statement-fits c this ≡ false → statements-fit c s i os (drop i all) ≡ stop (fault 3 s i)

@@ -1,5 +1,6 @@
 -- What the code finds in a file, seen as what reading is defined to give.
-use Prim.Native.Nat.{ℕ, _+_, _-_, _*_, _/_}
+use Prim.Native.Nat.{ℕ, _+_, _-_, _*_, _/_, _≤_}
+use mathlib.Core.Path.{_≡_}
 use mathlib.Core.Bool.{cond}
 use mathlib.Core.List.{List, [], _∷_}
 use lib.ListN.{length, drop}
@@ -61,6 +62,20 @@ kernel file c =
 unfoldable pub answer : List ℕ → Read → Result Fault File.Kernel
 answer file (Kernel c) = ok (kernel file c)
 answer file (Refused number section place) = stop (fault number section place)
+
+-- counts that are found are in their ranges, and their sections are the whole file
+pub record Stands (file : List ℕ) (c : Counts) : Type 0 where
+  pub few-registers : c .r ≤ 32
+  pub few-buffers : c .b ≤ 16
+  pub few-arrays : c .a ≤ 8
+  pub few-array-statements : c .s ≤ 256
+  pub few-stream-statements : c .t ≤ 256
+  pub few-rules : c .d ≤ 1024
+  pub whole : 6 + 8 * (c .a + c .s + c .t + c .d) ≡ length file / 4
+
+unfoldable pub Standing : List ℕ → Read → Type 0
+Standing file (Kernel c) = Stands file c
+Standing file (Refused number section place) = Unit
 
 -- a record of the code
 abbrev pub rec : Rec → File.Rec

@@ -6,7 +6,7 @@ ghost use Rattle.numbers.specs.Words.{words};
 ghost use Rattle.kernel.specs.File as File;
 ghost use Rattle.kernel.specs.Reading as Reading;
 ghost use Rattle.kernel.specs.Answers as Answers;
-ghost use Rattle.sections.specs.View.{step, counted, listed, answer, rec};
+ghost use Rattle.sections.specs.View.{step, counted, listed, answer, Standing, rec};
 
 // ---- the reader
 
@@ -101,7 +101,7 @@ fn count_at(file: &[u8], section: u8, place: usize, low: u32, high: u32) -> Foun
 // The count of a section at a place, with as many records behind it.
 fn section_at(file: &[u8], section: u8, place: usize, low: u32, high: u32) -> Found
     requires { ⌜ (place ≤ 65536) × (high ≤ 1024) ⌝ }
-    ensures { λ r. ⌜ (listed (words (now (file .entry))) r ≡ Reading.section section low high (drop place (words (now (file .entry))))) × (r .count ≤ high) × (r .next ≡ place + 1 + 8 * r .count) ⌝ }
+    ensures { λ r. ⌜ (listed (words (now (file .entry))) r ≡ Reading.section section low high (drop place (words (now (file .entry))))) × (r .count ≤ high) × (r .next ≡ place + 1 + 8 * r .count) × (r .number ≡ 0 → r .next ≤ length (now (file .entry)) / 4) ⌝ }
 {
     let f = count_at(file, section, place, low, high);
     if f.number != 0 {
@@ -146,7 +146,7 @@ pub enum Read {
 }
 
 pub fn sections(file: &[u8]) -> Read
-    ensures { λ r. ⌜ answer (now (file .entry)) r ≡ Reading.sections (words (now (file .entry))) ⌝ }
+    ensures { λ r. ⌜ (answer (now (file .entry)) r ≡ Reading.sections (words (now (file .entry)))) × Standing (now (file .entry)) r ⌝ }
 {
     let r = count_at(file, 1, 0, 1, 32);
     if r.number != 0 {

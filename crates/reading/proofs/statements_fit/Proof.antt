@@ -44,6 +44,9 @@ add-place c = search needs
 statement-fits-requires : tie.Need-statement-fits-requires Inv-loop μ-loop
 statement-fits-requires c κs = search needs
 
+cast-t13 : tie.Need-cast-t13 Inv-loop μ-loop
+cast-t13 c = search needs
+
 returns : tie.Need-returns Inv-loop μ-loop
 unfolding checked
 returns c =
@@ -63,6 +66,9 @@ after-requires c κs =
       λ e. subst (λ r. (1 ≤ loop-of r .passes) × (loop-of r .passes ≤ 131072)) (sym (c .fetch .ensures))
           (loop-there (scope (c .before .before .before .before .before .before .before .args .file .now) (c .before .before .before .before .before .before .before .args .c)) _ (sym (c .before .before .statement-fits .ensures) ∙ not-false _ (c .before .if1 .left)) (sym (ap (λ (r : Rec). r .code) (c .fetch .ensures)) ∙ e)),
     )
+
+cast-t14 : tie.Need-cast-t14 Inv-loop μ-loop
+cast-t14 c = search needs
 
 returns-2 : tie.Need-returns-2 Inv-loop μ-loop
 returns-2 c =
@@ -90,6 +96,9 @@ loop-again c =
       goes-on (scope (a .args .file .now) (a .args .c)) (a .args .section) (words (a .args .file .now)) (a .args .at) (a .args .count) (l .i) (c .before .before .before .before .before .before .loop-test .taken) (opens (l .n)) (sym (c .before .before .before .before .before .statement-fits .ensures) ∙ not-false _ (c .before .before .before .before .if1 .left)) (opens n) (ap (λ r. after (File.statement r) (opens (l .n))) (sym (c .before .before .before .fetch .ensures)) ∙ sym (c .before .before .after .ensures .0) ∙ nested-fine n (c .if2 .left))
           ∙ l .inv .3,
     )
+
+cast-t16 : tie.Need-cast-t16 Inv-loop μ-loop
+cast-t16 c = search needs
 
 returns-3 : tie.Need-returns-3 Inv-loop μ-loop
 unfolding checked
@@ -120,12 +129,15 @@ statements-fit-spec =
     mul-place
     add-place
     statement-fits-requires
+    cast-t13
     returns
     fetch-requires
     after-requires
+    cast-t14
     returns-2
     add-i
     loop-less
     loop-again
+    cast-t16
     returns-3
     returns-4)
