@@ -6,7 +6,7 @@ use lib.ListN.{length, getD, drop}
 use Rattle.numbers.specs.Result.{Result, ok, stop}
 use Rattle.numbers.specs.Words.{words}
 use Rattle.kernel.specs.File as File
-use Rattle.kernel.specs.Reading.{Fault, fault, records, read-file}
+use Rattle.kernel.specs.Reading.{Fault, fault, read-file}
 use Rattle.kernel.proofs.Readable.{length-records}
 use Rattle.sections.specs.declared.Counts.{Counts}
 use Rattle.sections.specs.declared.Rec.{Rec}
