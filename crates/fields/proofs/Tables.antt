@@ -1,7 +1,7 @@
 -- The code's table against the definition's, one field's test, and a row's tests field by field.
 use Prim.Native.Nat.{ℕ, zero, suc, _+_, _-_, _<_, _≤_, _^_}
 use mathlib.Core.Path.{_≡_, refl, sym, ap, _∙_}
-use mathlib.Core.Bool.{Bool, true, false, not, _&&_}
+use mathlib.Core.Bool.{Bool, true, false, _&&_}
 use mathlib.Core.Logic.{_⊎_, inl, inr}
 use mathlib.Core.List.{List, [], _∷_, map}
 use native.Mathlib.Omega.{arith}
@@ -13,16 +13,6 @@ use Rattle.numbers.specs.Words.{signed, within}
 use Rattle.numbers.proofs.Signs.{halves, signed-low, signed-high}
 use Rattle.kernel.specs.Reading.{Kind, either, array-only, stream-only, unused, register, an-input, an-output, term, bound, an-operator, table}
 use Rattle.fields.specs.View.{kind-of, kind-at}
-
--- ---- a test that is turned round
-
-pub not-true : (b : Bool) → not b ≡ true → b ≡ false
-not-true true e = sym e
-not-true false e = refl
-
-pub not-false : (b : Bool) → not b ≡ false → b ≡ true
-not-false true e = refl
-not-false false e = sym e
 
 -- ---- the table
 

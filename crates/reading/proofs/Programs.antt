@@ -11,17 +11,12 @@ use Rattle.kernel.specs.File.{Rec, record-of, nothing, none, sayings, statement
 use Rattle.kernel.specs.Reading.{Fault, fault, Scope, Open, records, statement-fits, after, closed, statements-fit}
 use Rattle.kernel.proofs.Guarantees.{Fits}
 use Rattle.kernel.proofs.Readable.{length-records, statement-says}
-use Rattle.sections.proofs.Places.{records-at}
+use Rattle.sections.proofs.Places.{drop-there, records-at}
 use Rattle.blocks.specs.declared.Nest.{Nest}
 use Rattle.blocks.specs.View.{opens, first, nested, Sound}
 use Rattle.blocks.proofs.Opens.{opens-top}
 use Rattle.reading.specs.declared.Fault as Found
 use Rattle.reading.specs.View.{checked}
-
-drop-from : (rs : List Rec) (i : ℕ) → i < length rs → drop i rs ≡ getD rs i nothing ∷ drop (suc i) rs
-drop-from [] i h = absurd (omega arith)
-drop-from (r ∷ rs) zero h = refl
-drop-from (r ∷ rs) (suc i) h = drop-from rs i (omega arith)
 
 -- a for that is a statement has its passes
 pub loop-there : (c : Scope) (r : Rec) → statement-fits c r ≡ true → r .code ≡ 8 → (1 ≤ loop-of r .passes) × (loop-of r .passes ≤ 131072)
@@ -34,9 +29,8 @@ loop-there c r h e =
 pub record-next : (ws : List ℕ) (p count i : ℕ) → i < count
     → drop i (records count (drop p ws)) ≡ record-of (take 8 (drop (p + 8 * i) ws)) ∷ drop (i + 1) (records count (drop p ws))
 record-next ws p count i h =
-    let e : suc i ≡ i + 1 = omega arith in
-    drop-from (records count (drop p ws)) i (omega (arith, length-records count (drop p ws)))
-    ∙ ap₂ (λ r j. r ∷ drop j (records count (drop p ws))) (records-at ws p count i h) e
+    drop-there (records count (drop p ws)) i nothing (omega (arith, length-records count (drop p ws)))
+    ∙ ap (λ r. r ∷ drop (i + 1) (records count (drop p ws))) (records-at ws p count i h)
 
 -- ---- one statement
 

@@ -20,16 +20,16 @@ use Rattle.sections.specs.declared.Step.{Step}
 use Rattle.sections.specs.declared.Step.the-variants.{Number, End}
 use Rattle.sections.specs.View.{step}
 
-drop-from : (ws : List ℕ) (p : ℕ) → p < length ws → drop p ws ≡ getD ws p 0 ∷ drop (suc p) ws
-drop-from [] p h = absurd (omega arith)
-drop-from (w ∷ ws) zero h = refl
-drop-from (w ∷ ws) (suc p) h = drop-from ws p (omega arith)
+drop-from : {A : Type 0} (xs : List A) (p : ℕ) (d : A) → p < length xs → drop p xs ≡ getD xs p d ∷ drop (suc p) xs
+drop-from [] p d h = absurd (omega arith)
+drop-from (x ∷ xs) zero d h = refl
+drop-from (x ∷ xs) (suc p) d h = drop-from xs p d (omega arith)
 
 -- what stands at a place, and what follows
-pub drop-there : (ws : List ℕ) (p : ℕ) → p < length ws → drop p ws ≡ getD ws p 0 ∷ drop (p + 1) ws
-drop-there ws p h =
+pub drop-there : {A : Type 0} (xs : List A) (p : ℕ) (d : A) → p < length xs → drop p xs ≡ getD xs p d ∷ drop (p + 1) xs
+drop-there xs p d h =
     let e : suc p ≡ p + 1 = omega arith in
-    drop-from ws p h ∙ ap (λ n. getD ws p 0 ∷ drop n ws) e
+    drop-from xs p d h ∙ ap (λ n. getD xs p d ∷ drop n xs) e
 
 -- ---- a count
 
@@ -42,7 +42,7 @@ ranged s low high n ws = do
 module _ (file : List ℕ) (p s low high : ℕ) where
   count-there : p < length file / 4 → count s low high (drop p (words file)) ≡ ranged s low high (word file p) (drop (p + 1) (words file))
   unfolding count word
-  count-there h = ap (count s low high) (drop-there (words file) p (omega (arith, words-length file)))
+  count-there h = ap (count s low high) (drop-there (words file) p 0 (omega (arith, words-length file)))
 
   count-past : length file / 4 ≤ p → count s low high (drop p (words file)) ≡ stop (fault 1 0 0)
   unfolding count

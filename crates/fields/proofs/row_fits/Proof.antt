@@ -5,6 +5,7 @@ use Prim.Native.Nat.{ℕ, _-_, _≤_}
 use native.Mathlib.Omega.{arith}
 use lib.ListN.{getD, take, drop}
 use borrow.Author.Needs.{needs}
+use borrow.Author.Tests.{not-true, not-false}
 use Rattle.numbers.specs.Lists.{alike}
 use Rattle.numbers.specs.Words.{words}
 use Rattle.numbers.specs.Areas.{word}
@@ -13,7 +14,7 @@ use Rattle.kernel.specs.File.{numbers, record-of}
 use Rattle.kernel.specs.Reading.{Kind, unused, table, holds}
 use Rattle.sections.proofs.Places.{numbers-8, number-there}
 use Rattle.fields.specs.View.{scope, row, kind-at}
-use Rattle.fields.proofs.Tables.{not-true, not-false, row-8, alike-stop, alike-more, alike-over}
+use Rattle.fields.proofs.Tables.{row-8, alike-stop, alike-more, alike-over}
 use Rattle.fields.proofs.row_fits.Statement.{statement}
 use Rattle.fields.proofs.row_fits.Tie as tie
 

@@ -10,9 +10,9 @@ use Rattle.numbers.proofs.Areas.{words-length}
 use Rattle.kernel.specs.File.{Rec, record-of, loop-of, whole}
 use Rattle.sections.proofs.Places.{record-there}
 use Rattle.fields.specs.View.{scope, row}
-use Rattle.fields.proofs.Tables.{not-true, not-false}
 use Rattle.fields.proofs.Statements.{fits-low, fits-high, fits-row, fits-other, fits-for}
 use borrow.Author.Needs.{needs}
+use borrow.Author.Tests.{not-true, not-false}
 use Rattle.fields.proofs.statement_fits.Statement.{statement}
 use Rattle.fields.proofs.statement_fits.Tie as tie
 

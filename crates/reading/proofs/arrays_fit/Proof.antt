@@ -6,10 +6,10 @@ use lib.ListN.{drop}
 use Rattle.numbers.specs.Words.{words}
 use Rattle.kernel.specs.File.{only, length-of}
 use Rattle.kernel.specs.Reading.{records, array-fits, arrays-fit}
-use Rattle.fields.proofs.Tables.{not-true, not-false}
 use Rattle.reading.specs.View.{checked}
 use Rattle.reading.proofs.Rows.{array-unfit, inputs-long, outputs-long, array-fine, arrays-over}
 use borrow.Author.Needs.{needs}
+use borrow.Author.Tests.{not-true, not-false}
 use Rattle.reading.proofs.arrays_fit.Statement.{statement}
 use Rattle.reading.proofs.arrays_fit.Tie as tie
 

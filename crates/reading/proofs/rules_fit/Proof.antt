@@ -6,10 +6,10 @@ use lib.ListN.{length, drop}
 use Rattle.numbers.specs.Words.{words}
 use Rattle.kernel.specs.File.{Kernel}
 use Rattle.kernel.specs.Reading.{records, rule-fits, rules-fit}
-use Rattle.fields.proofs.Tables.{not-true, not-false}
 use Rattle.reading.specs.View.{checked}
 use Rattle.reading.proofs.Rows.{rule-unfit, rule-fine, rules-over}
 use borrow.Author.Needs.{needs}
+use borrow.Author.Tests.{not-true, not-false}
 use Rattle.reading.proofs.rules_fit.Statement.{statement}
 use Rattle.reading.proofs.rules_fit.Tie as tie
 

@@ -10,12 +10,12 @@ use Rattle.kernel.specs.File as File
 use Rattle.kernel.specs.File.{Rec, loop-of}
 use Rattle.kernel.specs.Reading.{records, after, statements-fit}
 use Rattle.fields.specs.View.{scope}
-use Rattle.fields.proofs.Tables.{not-true, not-false}
 use Rattle.blocks.specs.View.{opens, Sound}
 use Rattle.blocks.proofs.Statements.{nested-fine}
 use Rattle.reading.specs.View.{checked}
 use Rattle.reading.proofs.Programs.{loop-there, unfit, blocked, goes-on, over, closed-none, closed-some, nested-stop, checked-stop}
 use borrow.Author.Needs.{needs}
+use borrow.Author.Tests.{not-true, not-false}
 use Rattle.reading.proofs.statements_fit.Statement.{statement}
 use Rattle.reading.proofs.statements_fit.Tie as tie
 
