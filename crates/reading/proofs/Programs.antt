@@ -1,10 +1,10 @@
 -- The statements of a program, one after another: what is left of the test from each place on.
-use Prim.Native.Nat.{ℕ, zero, suc, _+_, _*_, _<_, _≤_}
-use mathlib.Core.Path.{_≡_, refl, sym, ap, ap₂, subst, _∙_}
+use Prim.Native.Nat.{ℕ, suc, _+_, _*_, _<_, _≤_}
+use mathlib.Core.Path.{_≡_, sym, ap, subst, _∙_}
 use mathlib.Core.Bool.{true, false, cond}
-use mathlib.Core.List.{List, [], _∷_}
+use mathlib.Core.List.{List, _∷_}
 use native.Mathlib.Omega.{arith}
-use lib.ListN.{length, getD, take, drop, drop-of-length-le}
+use lib.ListN.{getD, take, drop, drop-of-length-le}
 use borrow.Author.Tests.{ne-eqb}
 use Rattle.numbers.specs.Result.{ok, stop, need, because, _>>=_}
 use Rattle.kernel.specs.File.{Rec, record-of, nothing, none, sayings, statement, loop-of}
