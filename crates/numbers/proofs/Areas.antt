@@ -139,3 +139,23 @@ pub bytes-length : (ws : List ℕ) → length (bytes ws) ≡ 4 * length ws
 unfolding bytes
 bytes-length [] = refl
 bytes-length (w ∷ ws) = omega (arith, bytes-length ws)
+
+-- ---- an area that is nothing but its words stays one
+
+bytes-four : (ws : List ℕ) (i w : ℕ)
+    → set (set (set (set (bytes ws) (four i) (w % 256)) (suc (four i)) (w / 256 % 256)) (suc (suc (four i))) (w / 65536 % 256)) (suc (suc (suc (four i)))) (w / 16777216 % 256) ≡ bytes (set ws i w)
+unfolding bytes four
+bytes-four [] zero w = refl
+bytes-four [] (suc i) w = refl
+bytes-four (v ∷ ws) zero w = refl
+bytes-four (v ∷ ws) (suc i) w = ap (λ l. v % 256 ∷ v / 256 % 256 ∷ v / 65536 % 256 ∷ v / 16777216 % 256 ∷ l) (bytes-four ws i w)
+
+pub put-bytes : (ws : List ℕ) (i w : ℕ) → put-word (bytes ws) i w ≡ bytes (set ws i w)
+put-bytes ws i w = by (decLt i (length (bytes ws) / 4))
+  where
+    by : Dec (i < length (bytes ws) / 4) → put-word (bytes ws) i w ≡ bytes (set ws i w)
+    by (yes l) = put-there (bytes ws) i w l ∙ simp (four-is, towards-suc) (bytes-four ws i w)
+    by (no n) = put-past (bytes ws) i w (omega arith) ∙ ap bytes (sym (set-out ws i w (omega (arith, bytes-length ws))))
+
+pub put-whole : (m : List ℕ) (i w : ℕ) → w < 4294967296 → bytes (words m) ≡ m → bytes (words (put-word m i w)) ≡ put-word m i w
+put-whole m i w h e = ap bytes (words-put m i w h) ∙ sym (put-bytes (words m) i w) ∙ ap (λ l. put-word l i w) e
