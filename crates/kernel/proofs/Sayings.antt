@@ -1,5 +1,5 @@
 -- What a record says, from its code; and what reading guarantees of the statement at a place.
-use mathlib.Core.Path.{_≡_, ap}
+use mathlib.Core.Path.{_≡_, refl, ap, subst}
 use mathlib.Core.List.{List}
 use Prim.Native.Nat.{ℕ, zero, suc, _<_, _≤_}
 use native.Mathlib.Omega.{arith}
@@ -57,6 +57,35 @@ module _ (r : Rec) where
   pub says-end : r .code ≡ ends → statement r ≡ end
   unfolding sayings
   says-end e = said-by r 11 e
+
+-- the other way: the code, from what a record says
+abbrev pub Agrees : ℕ → Statement → Type 0
+Agrees n (does o) = (1 ≤ n) × (n < 8)
+Agrees n (for l) = n ≡ 8
+Agrees n (if p) = n ≡ 9
+Agrees n else = n ≡ 10
+Agrees n end = n ≡ 11
+Agrees n none = Unit
+
+row-agrees : (r : Rec) (n : ℕ) → Agrees n (getD {A = Rec → Statement} sayings n (λ r. none) r)
+unfolding sayings
+row-agrees r zero = tt
+row-agrees r (suc zero) = (omega arith, omega arith)
+row-agrees r (suc (suc zero)) = (omega arith, omega arith)
+row-agrees r (suc (suc (suc zero))) = (omega arith, omega arith)
+row-agrees r (suc (suc (suc (suc zero)))) = (omega arith, omega arith)
+row-agrees r (suc (suc (suc (suc (suc zero))))) = (omega arith, omega arith)
+row-agrees r (suc (suc (suc (suc (suc (suc zero)))))) = (omega arith, omega arith)
+row-agrees r (suc (suc (suc (suc (suc (suc (suc zero))))))) = (omega arith, omega arith)
+row-agrees r (suc (suc (suc (suc (suc (suc (suc (suc zero)))))))) = refl
+row-agrees r (suc (suc (suc (suc (suc (suc (suc (suc (suc zero))))))))) = refl
+row-agrees r (suc (suc (suc (suc (suc (suc (suc (suc (suc (suc zero)))))))))) = refl
+row-agrees r (suc (suc (suc (suc (suc (suc (suc (suc (suc (suc (suc zero))))))))))) = refl
+row-agrees r (suc (suc (suc (suc (suc (suc (suc (suc (suc (suc (suc (suc n)))))))))))) = tt
+
+pub code-agrees : (r : Rec) (s : Statement) → statement r ≡ s → Agrees (r .code) s
+unfolding statement
+code-agrees r s e = subst (Agrees (r .code)) e (row-agrees r (r .code))
 
 -- the statement at a place of a program that reads
 pub fits-at : {c : Scope} {os : List Open} {rs : List Rec} → Nested c os rs → (i : ℕ) → i < length rs → Fits c (statement (getD rs i nothing))

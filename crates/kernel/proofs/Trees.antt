@@ -96,7 +96,7 @@ IsBlock c rs (branch n p a b t) os i j =
 
 -- ---- what a step of the reading says
 
-opened-says : (os : List Open) → On (λ os′. (os′ ≡ os) × Room os) (opened os)
+pub opened-says : (os : List Open) → On (λ os′. (os′ ≡ os) × Room os) (opened os)
 unfolding opened
 opened-says os =
     on-then _ (on-need _ _) λ t h.
@@ -107,7 +107,7 @@ names-says : (f : Form) (os : List Open) → On (λ os′. (os′ ≡ os) × Aro
 unfolding names
 names-says f os = on-then _ (on-need _ _) λ t h. on-ok (refl, around-says (open-loops os) f h)
 
-op-says : (o : Op) (os : List Open) → On (λ os′. (os′ ≡ os) × Names (open-loops os) o) (after-op o os)
+pub op-says : (o : Op) (os : List Open) → On (λ os′. (os′ ≡ os) × Names (open-loops os) o) (after-op o os)
 unfolding after-op
 op-says (set p f) os = names-says f os
 op-says (copy p q) os = on-ok (refl, tt)
