@@ -3,12 +3,12 @@
 use Prim.Native.Nat.{ℕ, zero, suc, _+_, _*_, _/_, _%_, _≤_, _<_}
 use mathlib.Core.Path.{_≡_, refl, sym, ap, ap₂, _∙_}
 use mathlib.Core.Bool.{Bool, cond}
-use mathlib.Core.List.{List, [], _∷_}
+use mathlib.Core.List.{List, [], _∷_, _++_}
 use native.Mathlib.Omega.{arith}
 use native.Mathlib.Nat.{div-div-eq-div-mul}
 use native.Mathlib.Decide.{decLt}
 use native.Mathlib.Numerals.{towards-suc}
-use lib.ListN.{length, getD, set, length-set, List·getD-eq-default}
+use lib.ListN.{length, getD, set, replicate, length-append, length-set, List·getD-eq-default}
 use lib.Seq.{set-out}
 use borrow.Author.Tests.{lt-ltb, le-ltb}
 use Rattle.numbers.specs.Words.{words, bytes}
@@ -159,3 +159,25 @@ put-bytes ws i w = by (decLt i (length (bytes ws) / 4))
 
 pub put-whole : (m : List ℕ) (i w : ℕ) → w < 4294967296 → bytes (words m) ≡ m → bytes (words (put-word m i w)) ≡ put-word m i w
 put-whole m i w h e = ap bytes (words-put m i w h) ∙ sym (put-bytes (words m) i w) ∙ ap (λ l. put-word l i w) e
+
+bytes-next : (ws : List ℕ) (a b c d : ℕ) (rest : List ℕ) (w : ℕ)
+    → set (set (set (set (bytes ws ++ a ∷ b ∷ c ∷ d ∷ rest) (four (length ws)) (w % 256)) (suc (four (length ws))) (w / 256 % 256)) (suc (suc (four (length ws)))) (w / 65536 % 256)) (suc (suc (suc (four (length ws))))) (w / 16777216 % 256) ≡ bytes (ws ++ w ∷ []) ++ rest
+unfolding bytes four
+bytes-next [] a b c d rest w = refl
+bytes-next (x ∷ ws) a b c d rest w = ap (λ l. x % 256 ∷ x / 256 % 256 ∷ x / 65536 % 256 ∷ x / 16777216 % 256 ∷ l) (bytes-next ws a b c d rest w)
+
+-- whatever stood there
+pub put-next : (ws : List ℕ) (a b c d : ℕ) (rest : List ℕ) (w : ℕ) → put-word (bytes ws ++ a ∷ b ∷ c ∷ d ∷ rest) (length ws) w ≡ bytes (ws ++ w ∷ []) ++ rest
+put-next ws a b c d rest w =
+    put-there (bytes ws ++ a ∷ b ∷ c ∷ d ∷ rest) (length ws) w (omega (arith, length-append (bytes ws) (a ∷ b ∷ c ∷ d ∷ rest), bytes-length ws))
+    ∙ simp (four-is, towards-suc) (bytes-next ws a b c d rest w)
+
+zero-bytes : (n : ℕ) → replicate (four n) 0 ≡ bytes (replicate n 0)
+unfolding bytes four
+zero-bytes zero = refl
+zero-bytes (suc n) = ap (λ l. 0 ∷ 0 ∷ 0 ∷ 0 ∷ l) (zero-bytes n)
+
+pub zeros-bytes : (n : ℕ) → replicate (4 * n) 0 ≡ bytes (replicate n 0)
+zeros-bytes n =
+    let e : 4 * n ≡ n * 4 = omega arith in
+    ap (λ k. replicate k 0) (e ∙ four-is n) ∙ zero-bytes n

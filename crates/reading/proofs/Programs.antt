@@ -2,16 +2,16 @@
 use Prim.Native.Nat.{ℕ, suc, _+_, _*_, _<_, _≤_}
 use mathlib.Core.Path.{_≡_, sym, ap, subst, _∙_}
 use mathlib.Core.Bool.{true, false, cond}
-use mathlib.Core.List.{List, _∷_}
+use mathlib.Core.List.{List}
 use native.Mathlib.Omega.{arith}
 use lib.ListN.{getD, take, drop, drop-of-length-le}
 use borrow.Author.Tests.{ne-eqb}
 use Rattle.numbers.specs.Result.{ok, stop, need, because, _>>=_}
-use Rattle.kernel.specs.File.{Rec, record-of, nothing, none, sayings, statement, loop-of}
+use Rattle.kernel.specs.File.{Rec, record-of, none, sayings, statement, loop-of}
 use Rattle.kernel.specs.Reading.{Fault, fault, Scope, Open, records, statement-fits, after, closed, statements-fit}
 use Rattle.kernel.proofs.Guarantees.{Fits}
 use Rattle.kernel.proofs.Readable.{length-records, statement-says}
-use Rattle.sections.proofs.Places.{drop-there, records-at}
+use Rattle.sections.proofs.Places.{record-next}
 use Rattle.blocks.specs.declared.Nest.{Nest}
 use Rattle.blocks.specs.View.{opens, first, nested, Sound}
 use Rattle.blocks.proofs.Opens.{opens-top}
@@ -24,13 +24,6 @@ unfolding statement sayings
 loop-there c r h e =
     let f = subst (λ k. Fits c (getD sayings k (λ r. none) r)) e (statement-says c r h) in
     (f .some, f .few)
-
--- record i of the section that begins at p, and what follows
-pub record-next : (ws : List ℕ) (p count i : ℕ) → i < count
-    → drop i (records count (drop p ws)) ≡ record-of (take 8 (drop (p + 8 * i) ws)) ∷ drop (i + 1) (records count (drop p ws))
-record-next ws p count i h =
-    drop-there (records count (drop p ws)) i nothing (omega (arith, length-records count (drop p ws)))
-    ∙ ap (λ r. r ∷ drop (i + 1) (records count (drop p ws))) (records-at ws p count i h)
 
 -- ---- one statement
 

@@ -11,7 +11,7 @@ use Rattle.numbers.specs.Result.{ok, stop, need, _>>=_}
 use Rattle.kernel.specs.File.{Rec, Kernel, record-of, input, output, only, length-of}
 use Rattle.kernel.specs.Reading.{fault, records, array-fits, arrays-fit, rule-fits, rules-fit}
 use Rattle.kernel.proofs.Readable.{length-records}
-use Rattle.reading.proofs.Programs.{record-next}
+use Rattle.sections.proofs.Places.{record-next}
 
 -- ---- arrays
 

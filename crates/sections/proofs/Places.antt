@@ -134,6 +134,13 @@ records-at ws p n i h = records-from n (drop p ws) i h ∙ ap (λ ns. record-of 
 pub records-past : (ws : List ℕ) (n i : ℕ) → n ≤ i → getD (records n ws) i nothing ≡ nothing
 records-past ws n i h = List·getD-eq-default (records n ws) nothing {n = i} (omega (arith, length-records n ws))
 
+-- record i of the section that begins at p, and what follows
+pub record-next : (ws : List ℕ) (p count i : ℕ) → i < count
+    → drop i (records count (drop p ws)) ≡ record-of (take 8 (drop (p + 8 * i) ws)) ∷ drop (i + 1) (records count (drop p ws))
+record-next ws p count i h =
+    drop-there (records count (drop p ws)) i nothing (omega (arith, length-records count (drop p ws)))
+    ∙ ap (λ r. r ∷ drop (i + 1) (records count (drop p ws))) (records-at ws p count i h)
+
 -- its code
 pub code-at : (ws : List ℕ) (p n i : ℕ) → i < n → p + 8 * n ≤ length ws → getD (records n (drop p ws)) i nothing .code ≡ getD ws (p + 8 * i) 0
 code-at ws p n i h l = ap (λ (r : Rec). r .code) (records-at ws p n i h ∙ sym (record-there ws (p + 8 * i) (omega arith)))
