@@ -15,7 +15,7 @@ use Rattle.kernel.specs.File.{Rec, nothing, Kernel, input, output, on, only, le
 use Rattle.kernel.specs.Machine.{cell}
 use Rattle.kernel.specs.Memory.{before, total, listed, cells, laid-out, placed, put-back, world}
 use Rattle.kernel.proofs.Guarantees.{ArrayFits, All, all-at, Reads}
-use Rattle.kernel.proofs.Orders.{item-inside, items-apart}
+use Rattle.kernel.proofs.Orders.{item-inside, items-apart, listed-length, cells-length}
 use Rattle.agreement.proofs.Turns.{map-at}
 use Rattle.agreement.proofs.Steps.{Tied}
 
@@ -64,11 +64,6 @@ distinct-append b {m} (not-again {x} {l} f r) low d high =
 -- ---- listed values
 
 module _ (f : ℕ → ℕ) where
-  pub listed-length : (m n : ℕ) → length (listed f m n) ≡ n
-  unfolding listed
-  listed-length m zero = refl
-  listed-length m (suc n) = ap suc (listed-length (suc m) n)
-
   pub listed-at : (m n k : ℕ) → k < n → getD (listed f m n) k 0 ≡ f (m + k)
   unfolding listed
   listed-at m zero k h = absurd (omega arith)
@@ -76,7 +71,7 @@ module _ (f : ℕ → ℕ) where
   listed-at m (suc n) (suc k) h = listed-at (suc m) n k (omega arith) ∙ ap f (omega arith)
 
   listed-every : (P : ℕ → Type 0) (m n : ℕ) → ((k : ℕ) → k < n → P (f (m + k))) → Every P (listed f m n)
-  listed-every P m n h = record { at = λ k z. subst P (sym (listed-at m n k (omega (arith, listed-length m n)))) (h k (omega (arith, listed-length m n))) }
+  listed-every P m n h = record { at = λ k z. subst P (sym (listed-at m n k (omega (arith, listed-length f m n)))) (h k (omega (arith, listed-length f m n))) }
 
   listed-distinct : (m n : ℕ) → ((i j : ℕ) → i < j → j < m + n → f j ≡ f i → ⊥) → Distinct (listed f m n)
   unfolding listed
@@ -87,7 +82,7 @@ module _ (f : ℕ → ℕ) where
     where
       first : (k : ℕ) → k < length (listed f (suc m) n) → getD (listed f (suc m) n) k 0 ≡ f m → ⊥
       first k z e =
-          let l : k < n = subst (λ l. k < l) (listed-length (suc m) n) z in
+          let l : k < n = subst (λ l. k < l) (listed-length f (suc m) n) z in
           h m (suc m + k) (omega arith) (omega arith) (sym (listed-at (suc m) n k l) ∙ e)
 
 -- ---- values put at distinct places
@@ -185,13 +180,6 @@ module _ (side : ℕ) where
   cells-distinct b [] f = none-twice
   cells-distinct b (a ∷ rs) f =
       distinct-append (b + only side length-of a) (own-distinct b a (f .0)) (own-in b a (f .0)) (cells-distinct (b + only side length-of a) rs (f .1)) (cells-from (b + only side length-of a) rs)
-
-  cells-length : (b : ℕ) (rs : List Rec) → length (cells side b rs) ≡ total-in side count-of rs
-  unfolding cells sum
-  cells-length b [] = refl
-  cells-length b (a ∷ rs) =
-      length-append (listed (λ n. b + natAbs (index a n)) 0 (only side count-of a)) (cells side (b + only side length-of a) rs)
-      ∙ omega (arith, listed-length (λ n. b + natAbs (index a n)) 0 (only side count-of a), cells-length (b + only side length-of a) rs)
 
   -- where item j of array q stands among the cells, and which cell it is
   cell-there : (rs : List Rec) (q j : ℕ) → q < length rs → j < only side count-of (getD rs q nothing) → before-in side count-of rs q + j < total-in side count-of rs

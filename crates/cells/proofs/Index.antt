@@ -17,8 +17,8 @@ use Rattle.forms.specs.declared.Form.{Form}
 use Rattle.forms.specs.Code.{form}
 use Rattle.kernel.specs.Machine.{cell-number}
 use Rattle.registers.proofs.States.{goes-on, stops}
-use Rattle.cells.specs.declared.Around.{Around}
-use Rattle.cells.specs.View.{around, Counters}
+use Rattle.loops.specs.declared.Around.{Around}
+use Rattle.loops.specs.View.{around, Counters}
 
 -- ---- the tests
 

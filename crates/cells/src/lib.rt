@@ -1,5 +1,6 @@
 // Cells of arrays and items of streams: the statements that set a register at an index form, load, store, read and write.
 use forms::Form;
+use loops::Around;
 ghost use mathlib.Core.Path.{_≡_};
 ghost use mathlib.Core.Bool.{cond};
 ghost use mathlib.Core.List.{List};
@@ -12,18 +13,8 @@ ghost use Rattle.forms.specs.Code.{form, Within};
 ghost use Rattle.kernel.specs.File as File;
 ghost use Rattle.kernel.specs.Machine as Machine;
 ghost use Rattle.registers.specs.View.{state, stopped};
-ghost use Rattle.cells.specs.View.{world, around, Counters, Whole};
-
-// The loops around a statement: how many more blocks may be opened, how many loops there are, and the counters of the four levels, 0 where no
-// loop runs.
-pub struct Around {
-    pub left: usize,
-    pub level: usize,
-    pub c0: i64,
-    pub c1: i64,
-    pub c2: i64,
-    pub c3: i64,
-}
+ghost use Rattle.loops.specs.View.{around, Counters};
+ghost use Rattle.cells.specs.View.{world, Whole};
 
 // An entry of a table.
 fn entry(table: &[u32; 8], q: usize) -> u32

@@ -3,6 +3,7 @@ pub mod Measured
 pub mod Further
 pub mod Guarantees
 pub mod Readable
+pub mod Lengths
 pub mod Sayings
 pub mod Orders
 pub mod Trees

@@ -1,17 +1,22 @@
--- The items of an order lie inside the array and are distinct: the indices go evenly from the first to the last, which both lie inside.
+-- The items of an order lie inside the array and are distinct: the indices go evenly from the first to the last, which both lie inside. How many
+-- cells a side's orders name.
 use mathlib.Core.Path.{_≡_, refl, sym, ap, _∙_}
 use mathlib.Core.Bool.{Bool, true, false, cond}
+use mathlib.Core.List.{List, [], _∷_, map}
 use Prim.Native.Nat.{ℕ, zero, suc, _+_, _-_, _*_, _<_, _≤_}
 use native.Mathlib.Omega.{arith}
 use native.Mathlib.Nat.{mul-le-mul-left, mul-lt-mul-of-pos-left}
 use lib.Dec.{ltb}
+use lib.ListN.{length, length-append}
 use lib.IntN.{ℤ, pos, negsuc, negℤ, natAbs, _+ℤ_, _*ℤ_, +ℤ-comm, pos-ne-negsuc}
 use borrow.Author.Tests.{ltb-false, le-ltb}
+use Rattle.numbers.specs.Lists.{sum}
 use Rattle.numbers.specs.Words.{inside}
 use Rattle.numbers.proofs.Ring.{+ℤ-cancel}
 use Rattle.numbers.proofs.Order.{abs-mul}
 use Rattle.numbers.proofs.Tests.{inside-index}
-use Rattle.kernel.specs.File.{Rec, length-of, first-of, count-of, step-of, index}
+use Rattle.kernel.specs.File.{Rec, only, length-of, first-of, count-of, step-of, index}
+use Rattle.kernel.specs.Memory.{listed, cells}
 use Rattle.kernel.proofs.Guarantees.{ArrayFits}
 
 -- z is an index of n cells
@@ -74,3 +79,17 @@ items-apart a f n m l e =
     apart (step-of a) n m (f .moves) l
     (+ℤ-cancel (first-of a) (step-of a *ℤ pos m) (step-of a *ℤ pos n)
     (+ℤ-comm (step-of a *ℤ pos m) (first-of a) ∙ e ∙ +ℤ-comm (first-of a) (step-of a *ℤ pos n)))
+
+-- ---- how many cells
+
+pub listed-length : (f : ℕ → ℕ) (m n : ℕ) → length (listed f m n) ≡ n
+unfolding listed
+listed-length f m zero = refl
+listed-length f m (suc n) = ap suc (listed-length f (suc m) n)
+
+pub cells-length : (side b : ℕ) (rs : List Rec) → length (cells side b rs) ≡ sum (map (only side count-of) rs)
+unfolding cells sum
+cells-length side b [] = refl
+cells-length side b (a ∷ rs) =
+    length-append (listed (λ n. b + natAbs (index a n)) 0 (only side count-of a)) (cells side (b + only side length-of a) rs)
+    ∙ omega (arith, listed-length (λ n. b + natAbs (index a n)) 0 (only side count-of a), cells-length side (b + only side length-of a) rs)

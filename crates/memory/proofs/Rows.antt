@@ -57,7 +57,7 @@ few-of : {field : ℕ} {a : Rec} → Measure field → ArrayFits a → field-of 
 few-of {a = a} (inl e) f = subst (λ n. n ≤ 4096) (sym (ap (λ k. field-of k a) e ∙ length-is a)) (f .short)
 few-of {a = a} (inr e) f = subst (λ n. n ≤ 4096) (sym (ap (λ k. field-of k a) e ∙ count-is a)) (omega (arith, f .short, f .counted))
 
-at-most : (side : ℕ) (n : Rec → ℕ) (a : Rec) → only side n a ≤ n a
+pub at-most : (side : ℕ) (n : Rec → ℕ) (a : Rec) → only side n a ≤ n a
 unfolding only
 at-most side n a = by (on side a)
   where

@@ -11,7 +11,7 @@ use Rattle.numbers.specs.Words.{inside}
 use Rattle.numbers.proofs.Signs.{back, small-back, as-returned}
 use Rattle.forms.specs.Form.{value}
 use Rattle.forms.specs.Code.{form}
-use Rattle.cells.specs.View.{around}
+use Rattle.loops.specs.View.{around}
 use Rattle.cells.proofs.Index.{below, past, there, inside-small, value-back}
 use borrow.Author.Needs.{needs}
 use Rattle.cells.proofs.cell_number.Statement.{statement}

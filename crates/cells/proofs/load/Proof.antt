@@ -3,7 +3,8 @@ use native.Mathlib.Omega.{arith}
 use Rattle.numbers.specs.Words.{words}
 use Rattle.forms.specs.Form.{value}
 use Rattle.forms.specs.Code.{form}
-use Rattle.cells.specs.View.{world, around}
+use Rattle.loops.specs.View.{around}
+use Rattle.cells.specs.View.{world}
 use Rattle.cells.proofs.Index.{number-in, number-out}
 use Rattle.cells.proofs.Cells.{cell-there, load-outside, loads}
 use borrow.Author.Needs.{needs}

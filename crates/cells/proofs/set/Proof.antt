@@ -4,7 +4,7 @@ use native.Mathlib.Omega.{arith}
 use Rattle.numbers.specs.Words.{low32}
 use Rattle.numbers.proofs.Signs.{small-back, as-returned}
 use Rattle.forms.specs.Code.{form}
-use Rattle.cells.specs.View.{around}
+use Rattle.loops.specs.View.{around}
 use Rattle.cells.proofs.Index.{value-back}
 use Rattle.cells.proofs.Cells.{sets}
 use borrow.Author.Needs.{needs}

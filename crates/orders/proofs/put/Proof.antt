@@ -1,0 +1,37 @@
+-- `orders::put` meets its contract: there is an item for every cell of the orders, and what no order names is cleared.
+use Prim.Native.Nat.{_*_}
+use mathlib.Core.Path.{sym, ap, _∙_}
+use mathlib.Core.List.{map}
+use lib.ListN.{replicate}
+use borrow.Author.Needs.{needs}
+use Rattle.numbers.specs.Lists.{sum}
+use Rattle.kernel.specs.File.{output, only, length-of}
+use Rattle.kernel.specs.Memory.{cells}
+use Rattle.kernel.proofs.Orders.{cells-length}
+use Rattle.memory.specs.View.{arrays-of}
+use Rattle.orders.specs.View.{carried}
+use Rattle.orders.proofs.Carried.{put-back}
+use Rattle.orders.proofs.put.Statement.{statement}
+use Rattle.orders.proofs.put.Tie as tie
+
+clear-requires : tie.Need-clear-requires
+clear-requires c κs = search needs
+
+carry-all-requires : tie.Need-carry-all-requires
+carry-all-requires c κs = search needs
+
+same-length : tie.Need-same-length
+same-length c = search needs
+
+returns : tie.Need-returns
+returns c =
+    let s = c .before .before .before .before .before .before .before .before .before .before .before in
+    let a = s .args in
+    let arrays = arrays-of (a .file .now) (a .n) in
+    let cs = cells output 0 arrays in
+    c .before .before .carry-all .ensures
+    ∙ ap (carried 2 0 cs (a .from .now)) (c .before .before .before .before .before .before .clear .ensures ∙ ap (λ n. replicate n 0) (s .pre .2))
+    ∙ put-back (a .from .now) cs (sum (map (only output length-of) arrays)) (s .pre .1 ∙ ap (λ n. 4 * n) (sym (cells-length output 0 arrays)))
+
+pub put-spec : {M : Type 1} → statement M
+put-spec = tie.close (tie.spec clear-requires carry-all-requires same-length returns)
