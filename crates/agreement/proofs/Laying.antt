@@ -6,7 +6,7 @@ use mathlib.Core.List.{List, [], _∷_, _++_, map}
 use Prim.Native.Nat.{ℕ, zero, suc, _+_, _<_, _≤_}
 use native.Mathlib.Omega.{arith}
 use lib.Dec.{eqb}
-use lib.ListN.{length, getD, take, set, replicate, length-append, List·getD-append}
+use lib.ListN.{length, getD, take, set, replicate, List·getD-append}
 use lib.Seq.{getD-append-add, set-comm, set-set, set-getD}
 use lib.IntN.{pos, natAbs}
 use borrow.Author.Tests.{eq-eqb, eqb-true}

@@ -55,30 +55,19 @@ pub fn run_block(
     sizes: &[u32; 8],
     bases: &[u32; 8],
     input: &[u8],
-    registers: &mut [u64; 48],
+    regs: &mut [u64; 48],
     places: &mut [u32; 8],
-    output: &mut [u8],
+    out: &mut [u8],
 ) -> Stop
-    requires { ⌜ Lies (now file) part × Stands (program (now file) part) from a × Counters a × Whole (now output) ⌝ }
-    ensures { λ r. ⌜ (stopped (r .reason) (r .at) (state (now (registers .exit)) (now (places .exit)) (words (now (output .exit)))) ≡ Machine.run (world (now (sizes .entry)) (now (bases .entry)) (words (now (input .entry)))) (tree-at (program (now (file .entry)) part) from) (around a) (state (now (registers .entry)) (now (places .entry)) (words (now (output .entry))))) × Whole (now (output .exit)) ⌝ }
+    requires { ⌜ Lies (now file) part × Stands (program (now file) part) from a × Counters a × Whole (now out) ⌝ }
+    ensures { λ r. ⌜ (stopped (r .reason) (r .at) (state (now (regs .exit)) (now (places .exit)) (words (now (out .exit)))) ≡ Machine.run (world (now (sizes .entry)) (now (bases .entry)) (words (now (input .entry)))) (tree-at (program (now (file .entry)) part) from) (around a) (state (now (regs .entry)) (now (places .entry)) (words (now (out .entry))))) × Whole (now (out .exit)) ⌝ }
 {
     let mut i = from;
     while i < part.count {
         if numbers::word(file, part.at + 8 * i) >= 10 {
             return stopped_at(0, 0);
         }
-        let s = run_statement(
-            file,
-            part,
-            i,
-            a,
-            sizes,
-            bases,
-            input,
-            registers,
-            places,
-            output,
-        );
+        let s = run_statement(file, part, i, a, sizes, bases, input, regs, places, out);
         if s.reason != 0 {
             return s;
         }
@@ -96,12 +85,12 @@ fn run_statement(
     sizes: &[u32; 8],
     bases: &[u32; 8],
     input: &[u8],
-    registers: &mut [u64; 48],
+    regs: &mut [u64; 48],
     places: &mut [u32; 8],
-    output: &mut [u8],
+    out: &mut [u8],
 ) -> Stop
-    requires { ⌜ Lies (now file) part × (i < part .count) × (getD (program (now file) part) i File.nothing .code < 10) × Stands (program (now file) part) i a × Counters a × Whole (now output) ⌝ }
-    ensures { λ r. ⌜ (stopped (r .reason) (r .at) (state (now (registers .exit)) (now (places .exit)) (words (now (output .exit)))) ≡ head (world (now (sizes .entry)) (now (bases .entry)) (words (now (input .entry)))) (tree-at (program (now (file .entry)) part) i) (around a) (state (now (registers .entry)) (now (places .entry)) (words (now (output .entry))))) × Whole (now (output .exit)) ⌝ }
+    requires { ⌜ Lies (now file) part × (i < part .count) × (getD (program (now file) part) i File.nothing .code < 10) × Stands (program (now file) part) i a × Counters a × Whole (now out) ⌝ }
+    ensures { λ r. ⌜ (stopped (r .reason) (r .at) (state (now (regs .exit)) (now (places .exit)) (words (now (out .exit)))) ≡ head (world (now (sizes .entry)) (now (bases .entry)) (words (now (input .entry)))) (tree-at (program (now (file .entry)) part) i) (around a) (state (now (regs .entry)) (now (places .entry)) (words (now (out .entry))))) × Whole (now (out .exit)) ⌝ }
 {
     let place = part.at + 8 * i;
     let code = numbers::word(file, place);
@@ -109,19 +98,8 @@ fn run_statement(
         let l = loops::loop_at(file, place);
         let mut m = 0;
         while m < l.passes {
-            let inner = loops::in_pass(a, l, m);
-            let s = run_block(
-                file,
-                part,
-                i + 1,
-                inner,
-                sizes,
-                bases,
-                input,
-                registers,
-                places,
-                output,
-            );
+            let b = loops::in_pass(a, l, m);
+            let s = run_block(file, part, i + 1, b, sizes, bases, input, regs, places, out);
             if s.reason != 0 {
                 return s;
             }
@@ -130,33 +108,13 @@ fn run_statement(
         return stopped_at(0, 0);
     }
     if code == 9 {
-        let block = chosen(file, part, i, a, registers);
+        let block = chosen(file, part, i, a, regs);
         if block == 0 {
             return stopped_at(31, i);
         }
-        return run_block(
-            file,
-            part,
-            block,
-            loops::in_if(a),
-            sizes,
-            bases,
-            input,
-            registers,
-            places,
-            output,
-        );
+        let b = loops::in_if(a);
+        return run_block(file, part, block, b, sizes, bases, input, regs, places, out);
     }
-    let reason = steps::perform(
-        file,
-        place,
-        a,
-        sizes,
-        bases,
-        input,
-        registers,
-        places,
-        output,
-    );
+    let reason = steps::perform(file, place, a, sizes, bases, input, regs, places, out);
     stopped_at(reason, i)
 }

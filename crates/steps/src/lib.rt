@@ -50,28 +50,12 @@ pub fn perform(
         return registers::work(numbers::word(file, place + 4), p, q, k, registers);
     }
     if code == 4 {
-        return cells::load(
-            p,
-            q,
-            form_at(file, place),
-            a,
-            sizes,
-            bases,
-            input,
-            registers,
-        );
+        let f = form_at(file, place);
+        return cells::load(p, q, f, a, sizes, bases, input, registers);
     }
     if code == 5 {
-        return cells::store(
-            p,
-            q,
-            form_at(file, place),
-            a,
-            sizes,
-            bases,
-            registers,
-            output,
-        );
+        let f = form_at(file, place);
+        return cells::store(p, q, f, a, sizes, bases, registers, output);
     }
     if code == 6 {
         return cells::read(p, q, sizes, bases, input, registers, places);

@@ -67,12 +67,12 @@ s-calls t = (word-reads.Asked, word-reads.Learnt, loop-at-reads.Asked, loop-at-r
 
 -- the run of the whole block is the run from here on
 abbrev run-block-Inv-loop : run-block-lts.InvT-loop
-run-block-Inv-loop file part from a sizes bases input registers₀ places₀ output₀ i₀ registers places output i =
-    (length output ≡ length output₀) × Whole output × (Stands (program file part) from a → Stands (program file part) i a)
-    × (run (world sizes bases (words input)) (tree-at (program file part) from) (around a) (state registers₀ places₀ (words output₀)) ≡ run (world sizes bases (words input)) (tree-at (program file part) i) (around a) (state registers places (words output)))
+run-block-Inv-loop file part from a sizes bases input regs₀ places₀ out₀ i₀ regs places out i =
+    (length out ≡ length out₀) × Whole out × (Stands (program file part) from a → Stands (program file part) i a)
+    × (run (world sizes bases (words input)) (tree-at (program file part) from) (around a) (state regs₀ places₀ (words out₀)) ≡ run (world sizes bases (words input)) (tree-at (program file part) i) (around a) (state regs places (words out)))
 
 abbrev run-block-μ-loop : run-block-lts.MeasureT-loop
-run-block-μ-loop file part from a sizes bases input registers₀ places₀ output₀ i₀ registers places output i = part .count - i
+run-block-μ-loop file part from a sizes bases input regs₀ places₀ out₀ i₀ regs places out i = part .count - i
 
 run-block-loop-holds : (t : ℕ) → run-block-lts.Need-loop-holds (b-calls t) (run-block-at t) run-block.Post run-block-Inv-loop run-block-μ-loop
 run-block-loop-holds t c =
@@ -106,7 +106,7 @@ run-block-returns t c =
     let rs = program f (a .part) in
     let e = world (a .sizes .now) (a .bases .now) (words (a .input .now)) in
     let v = c .before .before .before .before .before .before .loop in
-    let s = state (v .registers) (v .places) (words (v .output)) in
+    let s = state (v .regs) (v .places) (words (v .out)) in
     let st = v .inv .2 (p .1) in
     let h = there f (a .part) (p .0) (v .i) (c .before .before .before .before .if1 .taken) in
     let k = c .before .before .word .ensures ∙ code-here f (a .part) (p .0) (v .i) (c .before .before .before .before .if1 .taken) in
@@ -120,7 +120,7 @@ run-block-run-statement-requires t c κs =
     let rs = program f (a .part) in
     let e = world (a .sizes .now) (a .bases .now) (words (a .input .now)) in
     let v = c .before .before .before .before .before .before .before .before .loop in
-    let s = state (v .registers) (v .places) (words (v .output)) in
+    let s = state (v .regs) (v .places) (words (v .out)) in
     let st = v .inv .2 (p .1) in
     let k = c .before .before .before .before .word .ensures ∙ code-here f (a .part) (p .0) (v .i) (c .before .before .before .before .before .before .if1 .taken) in
     (omega (arith, c .before .before .before .before .before .before .before .before .before .before .before .before .pre .0), (p .0, c .before .before .before .before .before .before .if1 .taken, omega (arith, k, c .before .before .before .if2 .left), st, p .2, v .inv .1))
@@ -137,7 +137,7 @@ run-block-returns-2 t c =
     let rs = program f (a .part) in
     let e = world (a .sizes .now) (a .bases .now) (words (a .input .now)) in
     let v = c .before .before .before .before .before .before .before .before .before .before .before .before .before .loop in
-    let s = state (v .registers) (v .places) (words (v .output)) in
+    let s = state (v .regs) (v .places) (words (v .out)) in
     let st = v .inv .2 (p .1) in
     let h = there f (a .part) (p .0) (v .i) (c .before .before .before .before .before .before .before .before .before .before .before .if1 .taken) in
     let k = c .before .before .before .before .before .before .before .before .before .word .ensures ∙ code-here f (a .part) (p .0) (v .i) (c .before .before .before .before .before .before .before .before .before .before .before .if1 .taken) in
@@ -154,7 +154,7 @@ run-block-next-of-requires t c κs =
     let rs = program f (a .part) in
     let e = world (a .sizes .now) (a .bases .now) (words (a .input .now)) in
     let v = c .before .before .before .before .before .before .before .before .before .before .before .before .before .loop in
-    let s = state (v .registers) (v .places) (words (v .output)) in
+    let s = state (v .regs) (v .places) (words (v .out)) in
     let st = v .inv .2 (p .1) in
     (p .0, c .before .before .before .before .before .before .before .before .before .before .before .if1 .taken, st .begins)
 
@@ -166,7 +166,7 @@ run-block-loop-less t c =
     let rs = program f (a .part) in
     let e = world (a .sizes .now) (a .bases .now) (words (a .input .now)) in
     let v = c .before .before .before .before .before .before .before .before .before .before .before .before .before .before .loop in
-    let s = state (v .registers) (v .places) (words (v .output)) in
+    let s = state (v .regs) (v .places) (words (v .out)) in
     let st = v .inv .2 (p .1) in
     let h = there f (a .part) (p .0) (v .i) (c .before .before .before .before .before .before .before .before .before .before .before .before .if1 .taken) in
     let k = c .before .before .before .before .before .before .before .before .before .before .word .ensures ∙ code-here f (a .part) (p .0) (v .i) (c .before .before .before .before .before .before .before .before .before .before .before .before .if1 .taken) in
@@ -181,7 +181,7 @@ run-block-loop-again t c =
     let rs = program f (a .part) in
     let e = world (a .sizes .now) (a .bases .now) (words (a .input .now)) in
     let v = c .before .before .before .before .before .before .before .before .before .before .before .before .before .before .loop in
-    let s = state (v .registers) (v .places) (words (v .output)) in
+    let s = state (v .regs) (v .places) (words (v .out)) in
     let st = v .inv .2 (p .1) in
     let h = there f (a .part) (p .0) (v .i) (c .before .before .before .before .before .before .before .before .before .before .before .before .if1 .taken) in
     let k = c .before .before .before .before .before .before .before .before .before .before .word .ensures ∙ code-here f (a .part) (p .0) (v .i) (c .before .before .before .before .before .before .before .before .before .before .before .before .if1 .taken) in
@@ -207,18 +207,18 @@ run-block-returns-3 t c =
     let rs = program f (a .part) in
     let e = world (a .sizes .now) (a .bases .now) (words (a .input .now)) in
     let v = c .before .before .before .loop in
-    let s = state (v .registers) (v .places) (words (v .output)) in
+    let s = state (v .regs) (v .places) (words (v .out)) in
     let st = v .inv .2 (p .1) in
     (went-on _ _ s (c .stopped-at2 .ensures .0) ∙ over rs (v .i) (st .begins) e (around (a .a)) (omega (arith, c .before .if1 .left, count-is f (a .part))) s ∙ sym (v .inv .3), v .inv .1)
 
 -- m passes have been made
 abbrev run-statement-Inv-loop : run-statement-lts.InvT-loop
-run-statement-Inv-loop file part i a sizes bases input registers₀ places₀ output₀ place code l m₀ registers places output m =
-    (length output ≡ length output₀) × Whole output
-    × Passed (λ m s. run (world sizes bases (words input)) (tree-at (program file part) (i + 1)) (in-pass (loop l) (around a) m) s) (l .passes) (state registers₀ places₀ (words output₀)) m (state registers places (words output))
+run-statement-Inv-loop file part i a sizes bases input regs₀ places₀ out₀ place code l m₀ regs places out m =
+    (length out ≡ length out₀) × Whole out
+    × Passed (λ m s. run (world sizes bases (words input)) (tree-at (program file part) (i + 1)) (in-pass (loop l) (around a) m) s) (l .passes) (state regs₀ places₀ (words out₀)) m (state regs places (words out))
 
 abbrev run-statement-μ-loop : run-statement-lts.MeasureT-loop
-run-statement-μ-loop file part i a sizes bases input registers₀ places₀ output₀ place code l m₀ registers places output m = l .passes - m
+run-statement-μ-loop file part i a sizes bases input regs₀ places₀ out₀ place code l m₀ regs places out m = l .passes - m
 
 run-statement-mul-place : (t : ℕ) → run-statement-lts.Need-mul-place (s-calls t) (run-statement-at t) run-statement.Post run-statement-Inv-loop run-statement-μ-loop
 run-statement-mul-place t c =
@@ -281,9 +281,9 @@ run-statement-returns t c =
     let f = a .file .now in
     let rs = program f (a .part) in
     let e = world (a .sizes .now) (a .bases .now) (words (a .input .now)) in
-    let s₀ = state (a .registers .now) (a .places .now) (words (a .output .now)) in
+    let s₀ = state (a .regs .now) (a .places .now) (words (a .out .now)) in
     let v = c .before .before .before .before .before .before .before .before .before .before .before .loop in
-    let s = state (v .registers) (v .places) (words (v .output)) in
+    let s = state (v .regs) (v .places) (words (v .out)) in
     let h = there f (a .part) (p .0) (a .i) (p .1) in
     let k = c .before .before .before .before .before .before .before .before .before .before .before .before .before .before .word .ensures ∙ code-here f (a .part) (p .0) (a .i) (p .1) in
     let z8 = sym k ∙ c .before .before .before .before .before .before .before .before .before .before .before .before .before .if1 .taken in
@@ -313,9 +313,9 @@ run-statement-loop-again t c =
     let f = a .file .now in
     let rs = program f (a .part) in
     let e = world (a .sizes .now) (a .bases .now) (words (a .input .now)) in
-    let s₀ = state (a .registers .now) (a .places .now) (words (a .output .now)) in
+    let s₀ = state (a .regs .now) (a .places .now) (words (a .out .now)) in
     let v = c .before .before .before .before .before .before .before .before .before .before .before .loop in
-    let s = state (v .registers) (v .places) (words (v .output)) in
+    let s = state (v .regs) (v .places) (words (v .out)) in
     let n = c .before .before .before .before .before .before .before .before .in-pass .ensures in
     let z = c .before .before .before .before .run-block in
     let s′ = state (z .last .1 .1 .1 .1 .1 .1 .1 .0) (z .last .1 .1 .1 .1 .1 .1 .1 .1 .0) (words (z .last .1 .1 .1 .1 .1 .1 .1 .1 .1 .0)) in
@@ -340,9 +340,9 @@ run-statement-returns-2 t c =
     let f = a .file .now in
     let rs = program f (a .part) in
     let e = world (a .sizes .now) (a .bases .now) (words (a .input .now)) in
-    let s₀ = state (a .registers .now) (a .places .now) (words (a .output .now)) in
+    let s₀ = state (a .regs .now) (a .places .now) (words (a .out .now)) in
     let v = c .before .before .before .loop in
-    let s = state (v .registers) (v .places) (words (v .output)) in
+    let s = state (v .regs) (v .places) (words (v .out)) in
     let h = there f (a .part) (p .0) (a .i) (p .1) in
     let k = c .before .before .before .before .before .before .word .ensures ∙ code-here f (a .part) (p .0) (a .i) (p .1) in
     let z8 = sym k ∙ c .before .before .before .before .before .if1 .taken in
@@ -374,11 +374,11 @@ run-statement-returns-3 t c =
     let f = a .file .now in
     let rs = program f (a .part) in
     let e = world (a .sizes .now) (a .bases .now) (words (a .input .now)) in
-    let s₀ = state (a .registers .now) (a .places .now) (words (a .output .now)) in
+    let s₀ = state (a .regs .now) (a .places .now) (words (a .out .now)) in
     let h = there f (a .part) (p .0) (a .i) (p .1) in
     let k = c .before .before .before .before .before .before .word .ensures ∙ code-here f (a .part) (p .0) (a .i) (p .1) in
     let z9 = sym k ∙ c .before .before .before .before .if4 .taken in
-    ((λ x. stopped (c .stopped-at2 .ensures .0 x) (c .stopped-at2 .ensures .1 x) s₀) ∙ if-unset rs (a .i) (a .a) (p .3) h z9 (a .registers .now) (a .places .now) (words (a .output .now)) (c .before .before .chosen .result) e (around (a .a)) (c .before .before .chosen .ensures) (c .before .if5 .taken), p .5)
+    ((λ x. stopped (c .stopped-at2 .ensures .0 x) (c .stopped-at2 .ensures .1 x) s₀) ∙ if-unset rs (a .i) (a .a) (p .3) h z9 (a .regs .now) (a .places .now) (words (a .out .now)) (c .before .before .chosen .result) e (around (a .a)) (c .before .before .chosen .ensures) (c .before .if5 .taken), p .5)
 
 run-statement-in-if-requires : (t : ℕ) → run-statement-lts.Need-in-if-requires (s-calls t) (run-statement-at t) run-statement.Post run-statement-Inv-loop run-statement-μ-loop
 run-statement-in-if-requires t c κs =
@@ -404,7 +404,7 @@ run-statement-run-block-requires-2 t c κs =
     let z9 = sym k ∙ c .before .before .before .before .before .before .before .if4 .taken in
     let b = c .before .before .before .in-if in
     let u = ap (λ (b : Around). b .left) (b .ensures) in
-    (omega (arith, c .before .before .before .before .before .before .before .before .before .before .before .before .before .before .pre .0, u, if-deep rs (a .i) (a .a) (p .3) h z9), (p .0, if-stands rs (a .i) (a .a) (p .3) h z9 (a .registers .now) (a .places .now) (words (a .output .now)) (c .before .before .before .before .before .chosen .result) e (around (a .a)) (c .before .before .before .before .before .chosen .ensures) (c .before .before .before .before .if5 .left) (b .result) (u, ap (λ (b : Around). b .level) (b .ensures)), subst Counters (sym (b .ensures)) (record { c0-small = p .4 .c0-small; c1-small = p .4 .c1-small; c2-small = p .4 .c2-small; c3-small = p .4 .c3-small }), p .5))
+    (omega (arith, c .before .before .before .before .before .before .before .before .before .before .before .before .before .before .pre .0, u, if-deep rs (a .i) (a .a) (p .3) h z9), (p .0, if-stands rs (a .i) (a .a) (p .3) h z9 (a .regs .now) (a .places .now) (words (a .out .now)) (c .before .before .before .before .before .chosen .result) e (around (a .a)) (c .before .before .before .before .before .chosen .ensures) (c .before .before .before .before .if5 .left) (b .result) (u, ap (λ (b : Around). b .level) (b .ensures)), subst Counters (sym (b .ensures)) (record { c0-small = p .4 .c0-small; c1-small = p .4 .c1-small; c2-small = p .4 .c2-small; c3-small = p .4 .c3-small }), p .5))
 
 run-statement-same-length-3 : (t : ℕ) → run-statement-lts.Need-same-length-3 (s-calls t) (run-statement-at t) run-statement.Post run-statement-Inv-loop run-statement-μ-loop
 run-statement-same-length-3 t c =
@@ -417,13 +417,13 @@ run-statement-returns-4 t c =
     let f = a .file .now in
     let rs = program f (a .part) in
     let e = world (a .sizes .now) (a .bases .now) (words (a .input .now)) in
-    let s₀ = state (a .registers .now) (a .places .now) (words (a .output .now)) in
+    let s₀ = state (a .regs .now) (a .places .now) (words (a .out .now)) in
     let h = there f (a .part) (p .0) (a .i) (p .1) in
     let k = c .before .before .before .before .before .before .before .before .before .before .before .before .word .ensures ∙ code-here f (a .part) (p .0) (a .i) (p .1) in
     let z9 = sym k ∙ c .before .before .before .before .before .before .before .before .before .before .if4 .taken in
     let b = c .before .before .before .before .before .before .in-if in
     let z = c .before .before .run-block2 in
-    (z .ensures .0 ∙ ap (λ (b : Around). run e (tree-at rs (c .before .before .before .before .before .before .before .before .chosen .result)) (around b) s₀) (b .ensures) ∙ if-runs rs (a .i) (a .a) (p .3) h z9 (a .registers .now) (a .places .now) (words (a .output .now)) (c .before .before .before .before .before .before .before .before .chosen .result) e (around (a .a)) (c .before .before .before .before .before .before .before .before .chosen .ensures) (c .before .before .before .before .before .before .before .if5 .left), z .ensures .1)
+    (z .ensures .0 ∙ ap (λ (b : Around). run e (tree-at rs (c .before .before .before .before .before .before .before .before .chosen .result)) (around b) s₀) (b .ensures) ∙ if-runs rs (a .i) (a .a) (p .3) h z9 (a .regs .now) (a .places .now) (words (a .out .now)) (c .before .before .before .before .before .before .before .before .chosen .result) e (around (a .a)) (c .before .before .before .before .before .before .before .before .chosen .ensures) (c .before .before .before .before .before .before .before .if5 .left), z .ensures .1)
 
 run-statement-perform-requires : (t : ℕ) → run-statement-lts.Need-perform-requires (s-calls t) (run-statement-at t) run-statement.Post run-statement-Inv-loop run-statement-μ-loop
 run-statement-perform-requires t c κs =
@@ -453,7 +453,7 @@ run-statement-returns-5 t c =
     let f = a .file .now in
     let rs = program f (a .part) in
     let e = world (a .sizes .now) (a .bases .now) (words (a .input .now)) in
-    let s₀ = state (a .registers .now) (a .places .now) (words (a .output .now)) in
+    let s₀ = state (a .regs .now) (a .places .now) (words (a .out .now)) in
     let h = there f (a .part) (p .0) (a .i) (p .1) in
     let k = c .before .before .before .before .before .before .before .before .before .word .ensures ∙ code-here f (a .part) (p .0) (a .i) (p .1) in
     let x : getD rs (a .i) nothing .code ≡ 8 → ⊥ = λ y. c .before .before .before .before .before .before .before .before .if1 .left (k ∙ y) in

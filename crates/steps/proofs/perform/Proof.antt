@@ -1,6 +1,7 @@
 -- `steps::perform` meets its contract: an arm for each code, and the statement that it performs is the one that the record says.
 use Prim.Native.Nat.{ℕ}
 use mathlib.Core.List.{List}
+use native.Mathlib.Omega.{arith}
 use Rattle.numbers.specs.Words.{words}
 use Rattle.kernel.specs.Machine.{World, Around}
 use Rattle.loops.specs.View.{around}
@@ -80,7 +81,8 @@ returns c =
 copy-requires : tie.Need-copy-requires
 copy-requires c κs =
     let w = c .before .before .before in
-    copy-asks (decoded w) (performs w) (c .before .if2 .taken)
+    let (p, q) = copy-asks (decoded w) (performs w) (c .before .if2 .taken) in
+    (omega arith, omega arith)
 
 returns-2 : tie.Need-returns-2
 returns-2 c =
@@ -105,7 +107,8 @@ word-requires-5 c κs = search needs
 work-requires : tie.Need-work-requires
 work-requires c κs =
     let w = c .before .before .before .before .before .before in
-    work-asks (decoded w) (performs w) (c .before .before .word4 .ensures) (c .before .word5 .ensures) (c .before .before .before .if3 .taken)
+    let (p, q, k) = work-asks (decoded w) (performs w) (c .before .before .word4 .ensures) (c .before .word5 .ensures) (c .before .before .before .if3 .taken) in
+    (omega arith, omega arith, omega arith)
 
 returns-3 : tie.Need-returns-3
 returns-3 c =
