@@ -1,14 +1,14 @@
 -- Demand 1: enough rules and digits, lengths kept, and the bound on a run's steps, by induction over the block.
 use mathlib.Core.Path.{_≡_, refl, sym, ap, _∙_}
-use mathlib.Core.Bool.{Bool, true, false, cond, false≢true}
+use mathlib.Core.Bool.{Bool, true, false, cond}
 use mathlib.Core.List.{List, [], _∷_}
 use Prim.Native.Nat.{ℕ, zero, suc, _+_, _*_, _/_, _%_, _<_, _≤_}
 use native.Mathlib.Omega.{arith}
 use native.Mathlib.Nat as NatL
-use lib.Dec.{eqb, leb, ltb}
+use lib.Dec.{eqb, ltb}
 use lib.ListN.{length, length-set, length-replicate}
 use lib.IntN.{ℤ}
-use borrow.Author.Tests.{le-leb, ltb-false}
+use borrow.Author.Tests.{ltb-false}
 use Rattle.numbers.specs.Result.{Result, ok, stop, _>>=_, because}
 use Rattle.numbers.proofs.Results.{On, on-ok, on-stop, on-then, on-because, on-any, on-at}
 use Rattle.kernel.specs.File.{Rec, Kernel, output, length-of, count-of, Op, set, copy, work, load, store, read, write}
@@ -17,12 +17,13 @@ use Rattle.kernel.specs.Reading as Reading
 use Rattle.kernel.specs.Blocks.{Block, stops, plain, loop, branch, tree}
 use Rattle.kernel.specs.Machine.{World, State, Around, get, put, advance, keep, perform, Stuck, stuck, step, choose, in-pass, repeat, run}
 use Rattle.kernel.specs.Memory.{total, ran, world, start, outside, array-ran, stream-ran}
-use Rattle.kernel.specs.Stand.{Opened, in-for, in-if, in-else, Stand, beginning, next-rule, next-array, next-stream, went, row-count, Rule, same-rule, read-rule, fill-rule, use-rule, move-rule, write-rule, for-rule, if-rule, else-rule, end-rule, no-rule, rule}
-use Rattle.kernel.specs.Check.{at-else, at-end, effect, follow, Break, at, take-rule, finish, walk, check-kernel}
+use Rattle.kernel.specs.Stand.{beginning}
+use Rattle.kernel.specs.Check.{walk, check-kernel}
 use Rattle.kernel.specs.Answers.{decimal}
 use Rattle.kernel.proofs.Guarantees.{Nested}
 use Rattle.kernel.proofs.Readable.{file-reads}
 use Rattle.kernel.proofs.Trees.{IsBlock, one-tree}
+use Rattle.kernel.proofs.Walking.{same-walk}
 use Rattle.agreement.specs.Ends.{EnoughRules, EnoughDigits, LengthsKept, after, pass-steps, chosen-steps, steps, allowed, FewSteps, Ends}
 
 -- ---- digits
@@ -42,67 +43,6 @@ pub enough-digits : EnoughDigits
 enough-digits n f rest h = same-digits f (suc n) n rest h (omega arith)
 
 -- ---- rules
-
--- a rule that is taken goes forth
-taken-forth : (K : Kernel) (c : Stand) → On (λ d. c .rule < d .rule) (take-rule K c)
-unfolding take-rule at follow effect at-else at-end went
-taken-forth K c = on-because _ (on-then _ (on-any {P = λ _. Unit {0}} (λ t. tt)) λ t u. by (rule (next-rule K c .code)) (next-array K c) (next-stream K c))
-  where
-    forth : (k n : ℕ) → 1 ≤ n → k < k + n
-    forth k n h = omega arith
-
-    at-block-end : (os : List Opened) → On (λ d. c .rule < d .rule) (at-end os c)
-    at-block-end [] = on-stop
-    at-block-end (in-for l rows ∷ os) = on-then _ (on-any {P = λ _. Unit {0}} (λ t. tt)) λ t u. on-ok (forth (c .rule) 1 (omega arith))
-    at-block-end (in-if L ∷ os) = on-stop
-    at-block-end (in-else first ∷ os) = on-then _ (on-any {P = λ _. Unit {0}} (λ t. tt)) λ t u. on-ok (forth (c .rule) 1 (omega arith))
-
-    at-block-else : (os : List Opened) → On (λ d. c .rule < d .rule) (at-else os c)
-    at-block-else [] = on-stop
-    at-block-else (in-for l rows ∷ os) = on-stop
-    at-block-else (in-if L ∷ os) = on-ok (forth (c .rule) 1 (omega arith))
-    at-block-else (in-else first ∷ os) = on-stop
-
-    one : {A : Type 0} (m : Result ℕ A) (f : A → Result ℕ Stand) → ((a : A) → On (λ d. c .rule < d .rule) (f a)) → On (λ d. c .rule < d .rule) (m >>= f)
-    one m f h = on-then f (on-any {P = λ _. Unit {0}} (λ t. tt)) λ a u. h a
-
-    by : (r : Rule) (a s : Rec) → On (λ d. c .rule < d .rule) (effect K c r a s)
-    by same-rule a s = on-ok (forth (c .rule) 1 (omega arith))
-    by read-rule a s = one _ _ λ t. one _ _ λ t. on-ok (forth (c .rule) 1 (omega arith))
-    by fill-rule a s = one _ _ λ t. on-ok (forth (c .rule) 1 (omega arith))
-    by use-rule a s = one _ _ λ t. on-ok (forth (c .rule) 1 (omega arith))
-    by move-rule a s = one _ _ λ t. on-ok (forth (c .rule) 1 (omega arith))
-    by write-rule a s = one _ _ λ t. one _ _ λ t. on-ok (forth (c .rule) 1 (omega arith))
-    by for-rule a s = one _ _ λ t. on-ok (forth (c .rule) (suc (row-count K)) (omega arith))
-    by if-rule a s = on-ok (forth (c .rule) 1 (omega arith))
-    by else-rule a s = at-block-else (c .opened)
-    by end-rule a s = at-block-end (c .opened)
-    by no-rule a s = on-stop
-
--- a walk that may take more rules than are left
-same-walk : (K : Kernel) (n m : ℕ) (c : Stand) → length (K .derivation) ≤ c .rule + n → length (K .derivation) ≤ c .rule + m → walk K n c ≡ walk K m c
-unfolding walk
-same-walk K zero zero c h k = refl
-same-walk K zero (suc m) c h k = sym (over (leb (length (K .derivation)) (c .rule)) (le-leb (length (K .derivation)) (c .rule) (omega arith)))
-  where
-    over : (t : Bool) → t ≡ true → _≡_ {A = Result Break (Unit {0})} (elim t [ true ↦ finish K c | false ↦ take-rule K c >>= walk K m ]) (finish K c)
-    over true e = refl
-    over false e = absurd (false≢true e)
-same-walk K (suc n) zero c h k = over (leb (length (K .derivation)) (c .rule)) (le-leb (length (K .derivation)) (c .rule) (omega arith))
-  where
-    over : (t : Bool) → t ≡ true → _≡_ {A = Result Break (Unit {0})} (elim t [ true ↦ finish K c | false ↦ take-rule K c >>= walk K n ]) (finish K c)
-    over true e = refl
-    over false e = absurd (false≢true e)
-same-walk K (suc n) (suc m) c h k = by (leb (length (K .derivation)) (c .rule)) (λ d l. same-walk K n m d (omega arith) (omega arith))
-  where
-    by : (t : Bool) → ((d : Stand) → c .rule < d .rule → walk K n d ≡ walk K m d)
-        → _≡_ {A = Result Break (Unit {0})} (elim t [ true ↦ finish K c | false ↦ take-rule K c >>= walk K n ]) (elim t [ true ↦ finish K c | false ↦ take-rule K c >>= walk K m ])
-    by true r = refl
-    by false r = onward (take-rule K c) (taken-forth K c) r
-      where
-        onward : (x : Result Break Stand) → On (λ d. c .rule < d .rule) x → ((d : Stand) → c .rule < d .rule → walk K n d ≡ walk K m d) → (x >>= walk K n) ≡ (x >>= walk K m)
-        onward (ok d) l r = unfold _>>=_ in r d (l .on)
-        onward (stop b) l r = unfold _>>=_ in refl
 
 pub enough-rules : EnoughRules
 unfolding check-kernel beginning

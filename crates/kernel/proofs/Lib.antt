@@ -8,3 +8,4 @@ pub mod Sayings
 pub mod Orders
 pub mod Trees
 pub mod Fronts
+pub mod Walking

@@ -300,7 +300,16 @@ run-statement-returns t c =
 
 run-statement-add-m : (t : ℕ) → run-statement-lts.Need-add-m (s-calls t) (run-statement-at t) run-statement.Post run-statement-Inv-loop run-statement-μ-loop
 run-statement-add-m t c =
-    omega (arith, c .before .before .before .before .before .before .before .before .before .if2 .taken, c .before .before .before .before .before .before .before .before .before .before .before .before .before .before .before .before .before .before .before .fits)
+    let a = c .before .before .before .before .before .before .before .before .before .before .before .before .before .before .before .before .before .before .before .args in
+    let p = c .before .before .before .before .before .before .before .before .before .before .before .before .before .before .before .before .before .before .before .pre .1 in
+    let f = a .file .now in
+    let rs = program f (a .part) in
+    let e = world (a .sizes .now) (a .bases .now) (words (a .input .now)) in
+    let h = there f (a .part) (p .0) (a .i) (p .1) in
+    let k = c .before .before .before .before .before .before .before .before .before .before .before .before .before .before .word .ensures ∙ code-here f (a .part) (p .0) (a .i) (p .1) in
+    let z8 = sym k ∙ c .before .before .before .before .before .before .before .before .before .before .before .before .before .if1 .taken in
+    let q = c .before .before .before .before .before .before .before .before .before .before .before .before .loop-at .ensures ∙ ap loop-of (sym (record-is f (a .part) (p .0) (a .i) (p .1))) in
+    omega (arith, c .before .before .before .before .before .before .before .before .before .if2 .taken, subst LoopFits (sym q) (loop-fits rs (a .i) (a .a) (p .3) h z8) .few)
 
 run-statement-loop-less : (t : ℕ) → run-statement-lts.Need-loop-less (s-calls t) (run-statement-at t) run-statement.Post run-statement-Inv-loop run-statement-μ-loop
 run-statement-loop-less t c =
@@ -464,16 +473,7 @@ run-statement-returns-5 t c =
     ((λ x. stopped (c .stopped-at3 .ensures .0 x) (c .stopped-at3 .ensures .1 x) (state (z .last .1 .1 .1 .1 .1 .1 .0) (z .last .1 .1 .1 .1 .1 .1 .1 .0) (words (z .last .1 .1 .1 .1 .1 .1 .1 .1 .0)))) ∙ z .ensures .0 (t .op) u (a .i) ∙ sym (head-plain rs (a .i) (p .3 .begins) h e (around (a .a)) s₀ (t .op) (t .says) x y (p .2)), z .ensures .1)
 
 pub +run-block+run-statement-spec : {M : Type 1} → both M
-+run-block+run-statement-spec = close μ-run-block μ-run-statement (λ t. run-block-lts.spec (
-  word-reads.Asked,
-  word-reads.Learnt,
-  stopped-at-reads.Asked,
-  stopped-at-reads.Learnt,
-  run-statement-below t,
-  run-statement.Post,
-  next-of-reads.Asked,
-  next-of-reads.Learnt,
-)
++run-block+run-statement-spec = close μ-run-block μ-run-statement (λ t. run-block-lts.spec (b-calls t)
     (run-block-at t)
     run-block.Post
     run-block-Inv-loop
@@ -494,24 +494,7 @@ pub +run-block+run-statement-spec : {M : Type 1} → both M
     (run-block-stopped-at-requires-2 t)
     (run-block-same-length-3 t)
     (run-block-returns-3 t))
-    λ t. run-statement-lts.spec (
-      word-reads.Asked,
-      word-reads.Learnt,
-      loop-at-reads.Asked,
-      loop-at-reads.Learnt,
-      in-pass-reads.Asked,
-      in-pass-reads.Learnt,
-      run-block-below t,
-      run-block.Post,
-      stopped-at-reads.Asked,
-      stopped-at-reads.Learnt,
-      chosen-reads.Asked,
-      chosen-reads.Learnt,
-      in-if-reads.Asked,
-      in-if-reads.Learnt,
-      perform-reads.Asked,
-      perform-reads.Learnt,
-    )
+    λ t. run-statement-lts.spec (s-calls t)
     (run-statement-at t)
     run-statement.Post
     run-statement-Inv-loop
