@@ -10,7 +10,7 @@ use lib.ListN.{length, length-set, length-replicate}
 use lib.IntN.{ℤ}
 use borrow.Author.Tests.{ltb-false}
 use Rattle.numbers.specs.Result.{Result, ok, stop, _>>=_, because}
-use Rattle.numbers.proofs.Results.{On, on-ok, on-stop, on-then, on-because, on-any, on-at}
+use Rattle.numbers.proofs.Results.{On, on-ok, on-then, on-any, on-at}
 use Rattle.kernel.specs.File.{Rec, Kernel, output, length-of, count-of, Op, set, copy, work, load, store, read, write}
 use Rattle.kernel.specs.Reading.{Scope, array-scope, stream-scope, Open, all-passes}
 use Rattle.kernel.specs.Reading as Reading
@@ -18,7 +18,7 @@ use Rattle.kernel.specs.Blocks.{Block, stops, plain, loop, branch, tree}
 use Rattle.kernel.specs.Machine.{World, State, Around, get, put, advance, keep, perform, Stuck, stuck, step, choose, in-pass, repeat, run}
 use Rattle.kernel.specs.Memory.{total, ran, world, start, outside, array-ran, stream-ran}
 use Rattle.kernel.specs.Stand.{beginning}
-use Rattle.kernel.specs.Check.{walk, check-kernel}
+use Rattle.kernel.specs.Check.{check-kernel}
 use Rattle.kernel.specs.Answers.{decimal}
 use Rattle.kernel.proofs.Guarantees.{Nested}
 use Rattle.kernel.proofs.Readable.{file-reads}

@@ -7,7 +7,7 @@ ghost use mathlib.Core.List.{List};
 ghost use Prim.Native.Nat.{ℕ, _^_, _<_};
 ghost use lib.IntN.{natAbs};
 ghost use lib.ListN.{getD};
-ghost use Rattle.numbers.specs.Words.{words, low32, inside};
+ghost use Rattle.numbers.specs.Words.{words, inside};
 ghost use Rattle.forms.specs.Form as F;
 ghost use Rattle.forms.specs.Code.{form, Within};
 ghost use Rattle.kernel.specs.File as File;

@@ -17,7 +17,7 @@ use Rattle.numbers.proofs.Results.{On, on-ok, on-stop, on-at}
 use Rattle.forms.specs.Form.{Loop}
 use Rattle.kernel.specs.File.{Rec, nothing, Op, Statement, does, for, if, else, end, none, statement}
 use Rattle.kernel.specs.Reading.{Scope, Open, in-for, in-if, in-else, after, after-else, after-end}
-use Rattle.kernel.specs.Blocks.{Block, stops, plain, loop, branch, in-front, blocks}
+use Rattle.kernel.specs.Blocks.{Block, stops, in-front, blocks}
 use Rattle.kernel.proofs.Guarantees.{Fits, Nested, over, then}
 use Rattle.kernel.proofs.Readable.{length-records}
 use Rattle.kernel.proofs.Trees.{opened-says, op-says}
@@ -25,7 +25,7 @@ use Rattle.kernel.proofs.Sayings.{Agrees, code-agrees}
 use Rattle.sections.proofs.Places.{code-at}
 use Rattle.ends.specs.declared.Part.{Part}
 use Rattle.ends.specs.View.{program, Lies, tree-at, stop-of, closings, passed, Begins, Inside}
-use Rattle.ends.proofs.Walk.{said, From, trees, step-at, trees-at, nothing-open, blocks-some}
+use Rattle.ends.proofs.Walk.{said, trees, step-at, trees-at, nothing-open, blocks-some}
 
 -- ---- what is to be passed over, by code
 

@@ -10,10 +10,10 @@ use Rattle.numbers.specs.Result.{ok}
 use Rattle.numbers.proofs.Results.{On, on-ok, on-stop, on-at}
 use Rattle.forms.specs.Form.{Loop}
 use Rattle.kernel.specs.File.{Rec, nothing, Op, Statement, does, for, if, else, end, none, statement}
-use Rattle.kernel.specs.Reading.{Scope, Open, in-for, in-if, in-else, opened, after-else, after-end, after-op, after}
+use Rattle.kernel.specs.Reading.{Scope, Open, in-for, in-if, in-else, after-else, after-end, after}
 use Rattle.kernel.specs.Blocks.{Block, stops, plain, loop, branch, in-front, blocks}
 use Rattle.kernel.proofs.Guarantees.{OpFits, LoopFits, Fits, Nested, over, then}
-use Rattle.kernel.proofs.Trees.{Room, Names, opened-says, op-says}
+use Rattle.kernel.proofs.Trees.{Room, opened-says, op-says}
 use Rattle.kernel.proofs.Sayings.{Agrees, code-agrees}
 use Rattle.sections.proofs.Places.{drop-there}
 use Rattle.ends.specs.View.{tree-at, stop-of, behind, closings, Begins, Inside}

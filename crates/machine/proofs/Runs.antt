@@ -1,19 +1,16 @@
 -- How the run of a block goes on: its first statement, then the tree behind it; a loop pass by pass; an if by its register.
-use Prim.Native.Nat.{ℕ, zero, suc, _+_, _-_, _≤_, _<_}
+use Prim.Native.Nat.{ℕ, suc, _+_, _-_, _≤_, _<_}
 use mathlib.Core.Path.{_≡_, refl, sym, ap, subst, _∙_}
-use mathlib.Core.Bool.{Bool, true, false, cond}
-use mathlib.Core.List.{List, [], _∷_}
+use mathlib.Core.Bool.{Bool, cond}
+use mathlib.Core.List.{List}
 use native.Mathlib.Omega.{arith}
 use native.Mathlib.Decide.{ℕ-discrete}
-use lib.Dec.{eqb}
 use lib.ListN.{length, getD, drop}
 use borrow.Author.Tests.{eq-eqb, ne-eqb}
-use Rattle.numbers.specs.Result.{Result, ok, stop, _>>=_, because}
-use Rattle.forms.specs.Form.{Loop}
+use Rattle.numbers.specs.Result.{Result, ok, stop, _>>=_}
 use Rattle.kernel.specs.File.{Rec, nothing, Op, does, for, if, loop-of, statement}
-use Rattle.kernel.specs.Reading.{Scope, Open}
-use Rattle.kernel.specs.Blocks.{Block, stops, plain, loop, branch}
-use Rattle.kernel.specs.Machine.{World, State, Around, Stuck, stuck, get, step, choose, in-pass, repeat, run}
+use Rattle.kernel.specs.Blocks.{Block}
+use Rattle.kernel.specs.Machine.{World, State, Around, Stuck, stuck, step, choose, in-pass, repeat, run}
 use Rattle.kernel.proofs.Guarantees.{Nested}
 use Rattle.kernel.proofs.Sayings.{says-for, says-if}
 use Rattle.registers.specs.View.{stopped}

@@ -1,24 +1,23 @@
 -- Where the machine stands, from one record to the next: behind a statement, in a loop's body, in a block of an if; and what the program's
 -- records are in the file.
 use Prim.Native.Nat.{ℕ, suc, _+_, _-_, _*_, _/_, _^_, _≤_, _<_}
-use mathlib.Core.Path.{_≡_, refl, sym, ap, subst, _∙_}
+use mathlib.Core.Path.{_≡_, sym, ap, subst, _∙_}
 use mathlib.Core.Bool.{Bool, cond}
 use mathlib.Core.List.{List, _∷_}
 use native.Mathlib.Omega.{arith}
 use native.Mathlib.Decide.{ℕ-discrete, decLt}
-use lib.Dec.{eqb, ltb}
-use lib.ListN.{length, getD, take, drop}
+use lib.Dec.{eqb}
+use lib.ListN.{length, getD}
 use borrow.Author.Tests.{lt-ltb, le-ltb, eq-eqb, ne-eqb}
 use Rattle.numbers.specs.Result.{Result, ok, stop, _>>=_, because}
 use Rattle.numbers.specs.Words.{words}
 use Rattle.numbers.specs.Areas.{word}
 use Rattle.numbers.proofs.Areas.{words-length}
-use Rattle.forms.specs.Form.{Loop}
-use Rattle.kernel.specs.File.{Rec, nothing, Op, does, for, if, loop-of, statement}
+use Rattle.kernel.specs.File.{Rec, nothing, for, if, loop-of}
 use Rattle.kernel.specs.Reading.{in-for, in-if, in-else, open-loops}
 use Rattle.kernel.specs.Machine as Machine
-use Rattle.kernel.specs.Machine.{World, State, Stuck, stuck, get, step, choose, in-pass, repeat, run}
-use Rattle.kernel.proofs.Guarantees.{LoopFits, OpFits}
+use Rattle.kernel.specs.Machine.{World, State, Stuck, stuck, get, choose, run}
+use Rattle.kernel.proofs.Guarantees.{LoopFits}
 use Rattle.kernel.proofs.Sayings.{says-for, says-if}
 use Rattle.sections.proofs.Places.{record-there, records-at}
 use Rattle.registers.specs.View.{state, stopped}
@@ -31,7 +30,7 @@ use Rattle.ends.specs.View.{program, Lies, tree-at, stop-of, behind}
 use Rattle.ends.proofs.Walk.{plain-at, loop-at, branch-at}
 use Rattle.ends.proofs.Scan.{count-is}
 use Rattle.machine.specs.View.{Stands, head, taken}
-use Rattle.machine.proofs.Runs.{going, head-plain, head-loop, head-branch}
+use Rattle.machine.proofs.Runs.{going, head-branch}
 
 -- ---- the records of the file
 

@@ -5,7 +5,6 @@ ghost use mathlib.Core.Path.{_≡_};
 ghost use Prim.Native.Nat.{_+_, _*_, _<_};
 ghost use lib.ListN.{getD};
 ghost use Rattle.numbers.specs.Words.{words};
-ghost use Rattle.numbers.specs.Areas.{word};
 ghost use Rattle.kernel.specs.File as File;
 ghost use Rattle.kernel.specs.Machine as Machine;
 ghost use Rattle.registers.specs.View.{state, stopped};

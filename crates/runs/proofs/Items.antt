@@ -1,25 +1,24 @@
 -- No stream gives or takes more items than it has, so the counts that a run answers are at most 8,192. By recursion on the block.
 use Prim.Native.Nat.{ℕ, zero, suc, _+_, _≤_, _<_}
-use mathlib.Core.Path.{_≡_, refl, sym, ap, subst, _∙_}
+use mathlib.Core.Path.{_≡_, refl, sym, subst}
 use mathlib.Core.Bool.{Bool, true, false, cond}
 use mathlib.Core.List.{List, [], _∷_, map}
-use mathlib.Core.Option.{Option, none, some}
 use native.Mathlib.Omega.{arith}
 use native.Mathlib.Nat as NatL
 use native.Mathlib.Decide.{ℕ-discrete, decLt}
 use lib.Dec.{eqb}
-use lib.IntN.{ℤ, pos, natAbs}
+use lib.IntN.{ℤ, pos}
 use lib.ListN
 use lib.ListN.{length, getD}
 use lib.Seq.{getD-set-same, getD-set-other, set-out}
 use borrow.Author.Tests.{ltb-true}
-use Rattle.numbers.specs.Result.{Result, ok, stop, _>>=_, need, because}
+use Rattle.numbers.specs.Result.{Result, ok, stop, _>>=_, because}
 use Rattle.numbers.specs.Lists.{sum}
 use Rattle.numbers.specs.Words.{inside}
-use Rattle.numbers.proofs.Results.{On, on-ok, on-stop, on-need, on-then, on-any, on-because}
+use Rattle.numbers.proofs.Results.{On, on-ok, on-need, on-then, on-any}
 use Rattle.kernel.specs.File.{Rec, nothing, on, only, Op, set, copy, work, load, store, read, write}
 use Rattle.kernel.specs.Blocks.{Block, stops, plain, loop, branch}
-use Rattle.kernel.specs.Machine.{World, State, Around, Stuck, stuck, get, put, place, advance, cell, keep, result, cell-number, perform, step, choose, in-pass, repeat, run}
+use Rattle.kernel.specs.Machine.{World, State, Around, Stuck, stuck, get, put, place, advance, cell, keep, cell-number, perform, step, choose, in-pass, repeat, run}
 use Rattle.kernel.specs.Memory.{moved}
 
 -- ---- what holds of the state that a run leaves, ended or stuck

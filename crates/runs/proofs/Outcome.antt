@@ -7,11 +7,11 @@ use native.Mathlib.Omega.{arith}
 use lib.Dec.{eqb}
 use lib.ListN.{getD, replicate}
 use borrow.Author.Tests.{eq-eqb, ne-eqb}
-use Rattle.numbers.specs.Result.{Result, ok, stop}
+use Rattle.numbers.specs.Result.{ok, stop}
 use Rattle.numbers.specs.Lists.{sum}
 use Rattle.kernel.specs.File.{Rec, Kernel, nothing, input, output, only}
 use Rattle.kernel.specs.Blocks.{Block}
-use Rattle.kernel.specs.Machine.{World, State, Around, Stuck, stuck, run}
+use Rattle.kernel.specs.Machine.{World, State, Around, stuck, run}
 use Rattle.kernel.specs.Memory as Memory
 use Rattle.kernel.specs.Memory.{ended, sticks, moved}
 use Rattle.registers.specs.View.{state, stopped}

@@ -1,5 +1,5 @@
 -- What a file that reads is ready for: its arrays and its two programs lie in it and fit; and the first state of a run.
-use Prim.Native.Nat.{ℕ, zero, suc, _+_, _*_, _/_, _^_, _≤_, _<_}
+use Prim.Native.Nat.{ℕ, zero, suc, _+_, _*_, _/_, _≤_}
 use mathlib.Core.Path.{_≡_, refl, sym, ap, subst, _∙_}
 use mathlib.Core.Bool.{Bool, true, false, cond}
 use mathlib.Core.List.{List, [], _∷_, map}
@@ -7,31 +7,29 @@ use mathlib.Core.Logic.{inl, inr}
 use mathlib.Core.Option.{none}
 use native.Mathlib.Omega.{arith}
 use native.Mathlib.Nat as NatL
-use lib.Dec.{eqb}
 use lib.ListN.{length, getD, take, drop, replicate}
-use Rattle.numbers.specs.Result.{Result, ok, stop}
+use Rattle.numbers.specs.Result.{ok}
 use Rattle.numbers.specs.Lists.{sum}
 use Rattle.numbers.specs.Words.{words, bytes}
 use Rattle.numbers.proofs.Areas.{AllBelow, none-there, below-too, words-bytes, zeros-bytes}
 use Rattle.numbers.proofs.Results.{on-at}
 use Rattle.kernel.specs.File.{Rec, numbers, Kernel, nothing, input, output, on, only, length-of, count-of, array}
-use Rattle.kernel.specs.Reading.{Fault, read-file, array-scope, stream-scope}
+use Rattle.kernel.specs.Reading.{read-file, array-scope, stream-scope}
 use Rattle.kernel.specs.Blocks.{tree}
-use Rattle.kernel.specs.Machine.{World, State, Stuck, stuck, run}
 use Rattle.kernel.specs.Memory as Memory
-use Rattle.kernel.specs.Memory.{before, total, outside, start}
+use Rattle.kernel.specs.Memory.{before, total, start}
 use Rattle.kernel.proofs.Guarantees.{ArrayFits, All, Reads}
 use Rattle.kernel.proofs.Readable.{length-records, file-reads}
-use Rattle.kernel.proofs.Lengths.{all-records, file-length}
+use Rattle.kernel.proofs.Lengths.{file-length}
 use Rattle.sections.specs.declared.Counts.{Counts}
 use Rattle.sections.specs.declared.Read.{Read}
 use Rattle.sections.specs.declared.Read.the-variants.{Kernel as Kernel-of}
 use Rattle.sections.specs.View as Sections
 use Rattle.sections.specs.View.{kernel, arrays-at, array-program-at, stream-program-at, derivation-at}
-use Rattle.registers.specs.View.{known, state, stopped}
+use Rattle.registers.specs.View.{known, state}
 use Rattle.cells.specs.View as Cells
 use Rattle.ends.specs.declared.Part.{Part}
-use Rattle.ends.specs.View.{program, Lies, tree-at}
+use Rattle.ends.specs.View.{tree-at}
 use Rattle.memory.specs.View.{arrays-of, field-of, Arrays, Measure}
 use Rattle.runs.specs.View.{Ready}
 

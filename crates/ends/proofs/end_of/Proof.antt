@@ -1,10 +1,10 @@
 -- `ends::end_of` meets its contract. The invariant: the block sought stops where the one stops that follows the next `depth` elses and ends.
-use Prim.Native.Nat.{ℕ, _+_, _-_, _*_, _≤_, _<_}
+use Prim.Native.Nat.{_+_, _-_, _*_, _≤_, _<_}
 use mathlib.Core.Path.{_≡_, sym, ap, subst, _∙_}
 use borrow.Author.Needs.{needs}
 use mathlib.Core.Logic.{⊎-elim}
 use native.Mathlib.Omega.{arith}
-use lib.ListN.{length, getD}
+use lib.ListN.{getD}
 use Rattle.kernel.specs.File.{nothing}
 use Rattle.ends.specs.View.{program, passed}
 use Rattle.ends.proofs.Scan.{Scanning, scan-begins, scan-there, scan-on, scan-found, passed-most, code-here, count-is}

@@ -10,7 +10,6 @@ use mir.Facts.{toZ-pos}
 use Rattle.numbers.specs.Bounds.{Small}
 use Rattle.numbers.proofs.Signs.{back, small-add, small-mul, small-back, sum-back, fits, as-it-is}
 use Rattle.forms.specs.Form as F
-use Rattle.forms.specs.Code.{loop}
 use Rattle.blocks.proofs.Room.{counter-room}
 use Rattle.loops.proofs.counter.Statement.{statement}
 use Rattle.loops.proofs.counter.Tie as tie

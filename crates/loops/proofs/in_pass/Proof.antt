@@ -1,6 +1,6 @@
 -- `loops::in_pass` meets its contract: the counter is the loop's, and small.
-use Prim.Native.Nat.{ℕ, _+_, _-_}
-use mathlib.Core.Path.{_≡_, ap, _∙_}
+use Prim.Native.Nat.{_-_}
+use mathlib.Core.Path.{ap, _∙_}
 use native.Mathlib.Omega.{arith}
 use Rattle.numbers.proofs.Signs.{as-returned}
 use Rattle.kernel.specs.Machine.{Around}

@@ -1,5 +1,5 @@
 -- `loops::loop_at` meets its contract: the three numbers of the record.
-use mathlib.Core.Path.{_≡_, ap, _∙_}
+use mathlib.Core.Path.{ap, _∙_}
 use native.Mathlib.Omega.{arith}
 use lib.IntN.{_-ℤ_}
 use Rattle.numbers.specs.Words.{words, signed}

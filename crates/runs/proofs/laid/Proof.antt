@@ -1,18 +1,15 @@
 -- `runs::laid` meets its contract: 21 for either length, else laying out.
-use Prim.Native.Nat.{_*_}
-use mathlib.Core.Path.{_≡_, refl, sym, ap, _∙_}
+use mathlib.Core.Path.{refl, sym, ap, _∙_}
 use mathlib.Core.List.{List, map}
 use mathlib.Core.Logic.{inl, inr}
-use lib.ListN.{length, getD, replicate}
+use lib.ListN.{length, getD}
 use borrow.Author.Tests.{not-true, not-false, eqb-true}
-use Rattle.numbers.specs.Lists.{sum}
 use Rattle.numbers.specs.Words.{words, bytes}
 use Rattle.kernel.specs.File as File
 use Rattle.kernel.specs.File.{Rec, numbers}
 use Rattle.kernel.specs.Memory as Memory
 use Rattle.memory.specs.View.{field-of}
 use Rattle.runs.proofs.Calls.{wrong-first, wrong-second, both-right, measured-as, refused-move, done-move}
-use borrow.Author.Needs.{needs}
 use Rattle.runs.proofs.laid.Statement.{statement}
 use Rattle.runs.proofs.laid.Tie as tie
 

@@ -1,5 +1,5 @@
 -- `runs::put_back` meets its contract: reading first.
-use mathlib.Core.Path.{_≡_, refl, sym, ap, subst, _∙_}
+use mathlib.Core.Path.{refl, sym, ap, subst, _∙_}
 use Rattle.kernel.specs.File as File
 use Rattle.kernel.specs.Reading.{fault}
 use Rattle.kernel.specs.Memory as Memory

@@ -1,7 +1,5 @@
 -- `runs::run` meets its contract: 21 for either length, else the run.
-use Prim.Native.Nat.{_*_}
-use mathlib.Core.Path.{_≡_, sym, _∙_}
-use mathlib.Core.List.{map}
+use mathlib.Core.Path.{sym, _∙_}
 use lib.ListN.{length}
 use borrow.Author.Tests.{not-true, not-false, eqb-true}
 use Rattle.kernel.specs.File as File
@@ -10,7 +8,6 @@ use Rattle.ends.specs.View.{program}
 use Rattle.memory.specs.View.{field-of}
 use Rattle.runs.specs.View.{program-ran}
 use Rattle.runs.proofs.Calls.{wrong-first, wrong-second, both-right, measured-as, refused-run, ran-run}
-use borrow.Author.Needs.{needs}
 use Rattle.runs.proofs.run.Statement.{statement}
 use Rattle.runs.proofs.run.Tie as tie
 

@@ -1,9 +1,8 @@
 -- `runs::started` meets its contract: the machine begins in the first state, and no stream gives or takes more items than it has.
-use Prim.Native.Nat.{_+_, _*_}
-use mathlib.Core.Path.{_≡_, refl, sym, ap, subst, _∙_}
+use mathlib.Core.Path.{refl, sym, ap, subst, _∙_}
 use mathlib.Core.List.{[], map}
 use native.Mathlib.Omega.{arith}
-use lib.ListN.{length, replicate}
+use lib.ListN.{replicate}
 use Rattle.numbers.specs.Result.{ok}
 use Rattle.numbers.specs.Lists.{sum}
 use Rattle.numbers.specs.Words.{words, bytes}

@@ -1,10 +1,9 @@
 -- `runs::stream_run` meets its contract: reading first, then the run of the stream program.
-use mathlib.Core.Path.{_≡_, refl, sym, ap, subst, _∙_}
-use mathlib.Core.Logic.{inl, inr}
+use mathlib.Core.Path.{refl, sym, ap, subst, _∙_}
+use mathlib.Core.Logic.{inr}
 use native.Mathlib.Omega.{arith}
-use Rattle.numbers.specs.Result.{ok}
 use Rattle.kernel.specs.File as File
-use Rattle.kernel.specs.Reading.{fault, read-file}
+use Rattle.kernel.specs.Reading.{fault}
 use Rattle.kernel.specs.Memory as Memory
 use Rattle.sections.specs.View as Sections
 use Rattle.sections.specs.View.{kernel, arrays-at}
