@@ -1,0 +1,46 @@
+-- What a rule comes to: refused with a number, or a step of the ledger.
+use Prim.Native.Nat.{ℕ, _+_}
+use mathlib.Core.Path.{_≡_, ap, _∙_}
+use mathlib.Core.Bool.{Bool, true, false}
+use mathlib.Core.List.{List}
+use native.Mathlib.Omega.{arith}
+use Rattle.numbers.specs.Result.{Result, ok, stop, _>>=_, need}
+use Rattle.kernel.specs.Ledger as L
+use Rattle.kernel.specs.Stand as Stand
+use Rattle.kernel.specs.Stand.{Opened, went}
+use Rattle.ledger.specs.declared.Ledger.{Ledger}
+use Rattle.ledger.specs.View.{ledger, Bounded}
+use Rattle.ledger.proofs.Bounds.{within-wider}
+use Rattle.rules.specs.declared.Walked.{Walked}
+use Rattle.rules.specs.View.{stand, ruled}
+
+module _ {A : Type 0} (number : ℕ) (t : Bool) (f : Unit {0} → Result ℕ A) where
+  pub need-fails : t ≡ false → (need number t >>= f) ≡ stop number
+  unfolding need _>>=_
+  need-fails e = ap (λ t. need number t >>= f) e
+
+  pub need-holds : t ≡ true → (need number t >>= f) ≡ f tt
+  unfolding need _>>=_
+  need-holds e = ap (λ t. need number t >>= f) e
+
+-- the code's refusal, with 11 to 13, and its step past one rule, some statements of the array program and one of the stream program
+module _ (n b : ℕ) (os : List Opened) (w r : Walked) where
+  abbrev refusal : ℕ → Walked
+  refusal number = record { number = number; rule = w .rule; array = w .array; stream = w .stream; ledger = w .ledger }
+
+  pub ruled-11 : r ≡ refusal 11 → ruled n b os r ≡ stop 11
+  unfolding ruled
+  ruled-11 e = ap (ruled n b os) e
+
+  pub ruled-12 : r ≡ refusal 12 → ruled n b os r ≡ stop 12
+  unfolding ruled
+  ruled-12 e = ap (ruled n b os) e
+
+  pub ruled-on : (arrays : ℕ) (l : Ledger) (M : L.Ledger) → r ≡ record { number = 0; rule = w .rule + 1; array = w .array + arrays; stream = w .stream + 1; ledger = l } → ledger n b l ≡ M
+      → ruled n b os r ≡ ok (went 1 arrays 1 os M (stand n b os w))
+  unfolding ruled went
+  ruled-on arrays l M e f = ap (ruled n b os) e ∙ ap (λ M. ok (record { rule = w .rule + 1; array = w .array + arrays; stream = w .stream + 1; opened = os; ledger = M })) f
+
+-- a step more
+pub bounded-more : (m : ℕ) (l : Ledger) → Bounded m l → Bounded (m + 1) l
+bounded-more m l h = record { at-position = λ q. within-wider (h .at-position q) (omega arith) (omega arith) }
