@@ -49,7 +49,7 @@ module _ (file : List ℕ) (n q : ℕ) (h : q < n) (r : Arrays file n) where
   first-few = omega (arith, fits .first-inside, fits .short)
 
   -- as the cast leaves it
-  pub first-is : (v : ℕ) → v ≡ field-of 2 (array-at file q) → (toZ w64 v ≡ pos v) × Small (2 ^ 20) (pos v)
+  pub first-is : (v : ℕ) → v ≡ field-of 2 (array-at file q) → (toZ w64 v ≡ pos v) × Small (2 ^ 12) (pos v)
   first-is v e = (toZ-pos w64 (omega (arith, first-few, e)), record { abs = omega (arith, first-few, e) })
 
   pub step-small : Small (2 ^ 12) (signed (field-of 4 (array-at file q)))

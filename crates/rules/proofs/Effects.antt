@@ -1,15 +1,21 @@
 -- What a rule comes to: refused with a number, or a step of the ledger.
-use Prim.Native.Nat.{ℕ, _+_}
-use mathlib.Core.Path.{_≡_, ap, _∙_}
-use mathlib.Core.Bool.{Bool, true, false}
+use Prim.Native.Nat.{ℕ, zero, suc, _+_}
+use mathlib.Core.Path.{_≡_, refl, ap, _∙_}
+use mathlib.Core.Bool.{Bool, true, false, not, _&&_}
 use mathlib.Core.List.{List}
 use native.Mathlib.Omega.{arith}
+use lib.Dec.{eqb}
+use borrow.Author.Tests.{eq-eqb, ne-eqb}
 use Rattle.numbers.specs.Result.{Result, ok, stop, _>>=_, need}
+use Rattle.forms.specs.Form as F
+use Rattle.forms.specs.declared.Form.{Form}
+use Rattle.forms.specs.Code.{form}
 use Rattle.kernel.specs.Ledger as L
+use Rattle.kernel.specs.Check as Check
 use Rattle.kernel.specs.Stand as Stand
 use Rattle.kernel.specs.Stand.{Opened, went}
 use Rattle.ledger.specs.declared.Ledger.{Ledger}
-use Rattle.ledger.specs.View.{ledger, Bounded}
+use Rattle.ledger.specs.View.{numbered, ledger, Bounded}
 use Rattle.ledger.proofs.Bounds.{within-wider}
 use Rattle.rules.specs.declared.Walked.{Walked}
 use Rattle.rules.specs.View.{stand, ruled}
@@ -36,6 +42,10 @@ module _ (n b : ℕ) (os : List Opened) (w r : Walked) where
   unfolding ruled
   ruled-12 e = ap (ruled n b os) e
 
+  pub ruled-13 : r ≡ refusal 13 → ruled n b os r ≡ stop 13
+  unfolding ruled
+  ruled-13 e = ap (ruled n b os) e
+
   pub ruled-on : (arrays : ℕ) (l : Ledger) (M : L.Ledger) → r ≡ record { number = 0; rule = w .rule + 1; array = w .array + arrays; stream = w .stream + 1; ledger = l } → ledger n b l ≡ M
       → ruled n b os r ≡ ok (went 1 arrays 1 os M (stand n b os w))
   unfolding ruled went
@@ -44,3 +54,20 @@ module _ (n b : ℕ) (os : List Opened) (w r : Walked) where
 -- a step more
 pub bounded-more : (m : ℕ) (l : Ledger) → Bounded m l → Bounded (m + 1) l
 bounded-more m l h = record { at-position = λ q. within-wider (h .at-position q) (omega arith) (omega arith) }
+
+-- ---- buffers
+
+pub holds-not : (q k : ℕ) (f : F.Form) (g : Form) → (k ≡ q + 1 → ⊥) → L.holds-just (L.held q f) (numbered k g) ≡ false
+unfolding numbered L.holds-just
+holds-not q zero f g h = refl
+holds-not q (suc k) f g h = ap (λ t. t && F.same f (form g)) (ne-eqb q k (λ e. h (omega (arith, e))))
+
+pub holds-if : (q k : ℕ) (f : F.Form) (g : Form) → k ≡ q + 1 → L.holds-just (L.held q f) (numbered k g) ≡ F.same f (form g)
+unfolding numbered L.holds-just
+holds-if q zero f g h = absurd (omega (arith, h))
+holds-if q (suc k) f g h = ap (λ t. t && F.same f (form g)) (eq-eqb q k (omega (arith, h)))
+
+pub something-is : (k : ℕ) (g : Form) → not (eqb k 0) ≡ Check.something (numbered k g)
+unfolding numbered Check.something
+something-is zero g = refl
+something-is (suc k) g = ap not (ne-eqb (suc k) 0 (λ e. omega (arith, e)))

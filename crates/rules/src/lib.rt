@@ -131,3 +131,71 @@ pub fn write(file: &[u8], n: usize, w: Walked, ls: Loops, a: Rec) -> Walked
     }
     took(w, 1, l.write(q))
 }
+
+// Rule 3: the position below the count (11); the buffer then holds the next index, and the position is one more.
+pub fn fill(file: &[u8], n: usize, registers: usize, w: Walked, ls: Loops, s: Rec) -> Walked
+    requires { ⌜ (w .rule ≤ 4096) × (w .array ≤ 4096) × (w .stream ≤ 4096) × Arrays (now file) n × (s .q < n) × Turning ls × ((m : ℕ) × Bounded m (w .ledger) × (m ≤ 4096)) × (registers ≤ s .p) × (s .p < registers + 16) ⌝ }
+    ensures { λ r. ⌜ ((K : File.Kernel) (b : ℕ) (os : List Stand.Opened) (a : File.Rec) → K .arrays ≡ arrays-of (now (file .entry)) n → K .registers ≡ registers → Stand.loops os ≡ loops ls → ruled n b os r ≡ Check.effect K (stand n b os w) Stand.fill-rule a (rec s)) × ((m : ℕ) → Bounded m (w .ledger) → Bounded (m + 1) (r .ledger)) ⌝ }
+{
+    let q = s.q as usize;
+    let l = w.ledger;
+    if !below_count(file, n, l, ls, q) {
+        return refused(w, 11);
+    }
+    let first = memory::number(file, q, 2) as i64;
+    let step = numbers::signed(memory::number(file, q, 4));
+    let buffer = (s.p as usize) - registers;
+    took(w, 0, l.fill(buffer, q, first, step))
+}
+
+// Whether a buffer holds just that array and index form.
+fn holds(l: Ledger, buffer: usize, q: u32, f: Form) -> bool
+    requires { ⌜ buffer < 16 ⌝ }
+    ensures { λ r. ⌜ ((a b : ℕ) → buffer < b → r ≡ L.holds-just (L.held q (form f)) (L.holding buffer (ledger a b l))) ⌝ }
+{
+    let held = l.held;
+    let h = held[buffer];
+    let number = (q as usize) + 1;
+    if h.number != number {
+        return false;
+    }
+    f.same(h.index)
+}
+
+// Rule 4: the buffer holds the load's array and index (13).
+pub fn uses(registers: usize, w: Walked, a: Rec, s: Rec) -> Walked
+    requires { ⌜ (w .rule ≤ 4096) × (w .array ≤ 4096) × (w .stream ≤ 4096) × (registers ≤ s .q) × (s .q < registers + 16) ⌝ }
+    ensures { λ r. ⌜ ((K : File.Kernel) (n b : ℕ) (os : List Stand.Opened) → K .registers ≡ registers → s .q < registers + b → ruled n b os r ≡ Check.effect K (stand n b os w) Stand.use-rule (rec a) (rec s)) × ((m : ℕ) → Bounded m (w .ledger) → Bounded (m + 1) (r .ledger)) ⌝ }
+{
+    let l = w.ledger;
+    let buffer = (s.q as usize) - registers;
+    let f = blocks::form_of(a);
+    if !holds(l, buffer, a.q, f) {
+        return refused(w, 13);
+    }
+    took(w, 1, l)
+}
+
+// Whether a buffer holds something.
+fn something(l: Ledger, buffer: usize) -> bool
+    requires { ⌜ buffer < 16 ⌝ }
+    ensures { λ r. ⌜ ((a b : ℕ) → buffer < b → r ≡ Check.something (L.holding buffer (ledger a b l))) ⌝ }
+{
+    let held = l.held;
+    let h = held[buffer];
+    h.number != 0
+}
+
+// Rule 5: the buffer copied holds something (13); the other then holds the same.
+pub fn moves(registers: usize, w: Walked, s: Rec) -> Walked
+    requires { ⌜ (w .rule ≤ 4096) × (w .array ≤ 4096) × (w .stream ≤ 4096) × (registers ≤ s .p) × (s .p < registers + 16) × (registers ≤ s .q) × (s .q < registers + 16) ⌝ }
+    ensures { λ r. ⌜ ((K : File.Kernel) (n b : ℕ) (os : List Stand.Opened) (a : File.Rec) → K .registers ≡ registers → s .q < registers + b → ruled n b os r ≡ Check.effect K (stand n b os w) Stand.move-rule a (rec s)) × ((m : ℕ) → Bounded m (w .ledger) → Bounded (m + 1) (r .ledger)) ⌝ }
+{
+    let l = w.ledger;
+    let from = (s.q as usize) - registers;
+    let to = (s.p as usize) - registers;
+    if !something(l, from) {
+        return refused(w, 13);
+    }
+    took(w, 0, l.moved(to, from))
+}

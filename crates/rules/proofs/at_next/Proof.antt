@@ -8,7 +8,7 @@ use mir.Val.{toZ}
 use mir.Facts.{toZ-pos}
 use Rattle.numbers.specs.Bounds.{Small}
 use Rattle.numbers.specs.Words.{signed}
-use Rattle.numbers.proofs.Signs.{as-returned, small-back}
+use Rattle.numbers.proofs.Signs.{as-returned, small-back, wider}
 use Rattle.forms.specs.Form as F
 use Rattle.forms.specs.Code.{form, Within}
 use Rattle.kernel.specs.Ledger as L
@@ -40,7 +40,7 @@ signed-requires c κs = search needs
 along-requires : tie.Need-along-requires
 along-requires c κs =
     let first = first-is (c .before .before .before .before .before .args .file .now) (c .before .before .before .before .before .args .n) (c .before .before .before .before .before .args .q) (c .before .before .before .before .before .pre .1) (c .before .before .before .before .before .pre .0) _ (c .before .before .number .ensures) in
-    (subst (Within (2 ^ 50) (2 ^ 33)) (sym (c .before .before .before .position .ensures)) (room (c .before .before .before .before .before .pre .2 .1) (c .before .before .before .before .before .pre .2 .2) (c .before .before .before .before .before .args .q)), (subst (Small (2 ^ 20)) (sym (first .0)) (first .1), small-back (subst (Small (2 ^ 12)) (sym (c .signed .ensures ∙ ap signed (c .before .number2 .ensures))) (step-small (c .before .before .before .before .before .args .file .now) (c .before .before .before .before .before .args .n) (c .before .before .before .before .before .args .q) (c .before .before .before .before .before .pre .1) (c .before .before .before .before .before .pre .0)))))
+    (subst (Within (2 ^ 50) (2 ^ 33)) (sym (c .before .before .before .position .ensures)) (room (c .before .before .before .before .before .pre .2 .1) (c .before .before .before .before .before .pre .2 .2) (c .before .before .before .before .before .args .q)), (subst (Small (2 ^ 20)) (sym (first .0)) (wider (first .1) tt), small-back (subst (Small (2 ^ 12)) (sym (c .signed .ensures ∙ ap signed (c .before .number2 .ensures))) (step-small (c .before .before .before .before .before .args .file .now) (c .before .before .before .before .before .args .n) (c .before .before .before .before .before .args .q) (c .before .before .before .before .before .pre .1) (c .before .before .before .before .before .pre .0)))))
 
 form-of-requires : tie.Need-form-of-requires
 form-of-requires c κs = search needs
