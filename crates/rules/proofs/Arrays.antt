@@ -1,16 +1,16 @@
 -- What the code reads of an array's order, against the definitions' array.
 use Prim.Native.Nat.{ℕ, _+_, _*_, _/_, _^_, _<_, _≤_}
-use mathlib.Core.Path.{_≡_, refl, sym, ap, subst, _∙_}
+use mathlib.Core.Path.{_≡_, sym, ap, _∙_}
 use mathlib.Core.List.{List}
 use native.Mathlib.Omega.{arith}
-use lib.IntN.{ℤ, pos, natAbs}
+use lib.IntN.{pos}
 use lib.ListN.{length, getD}
 use mir.Syntax.{w64}
 use mir.Val.{toZ}
 use mir.Facts.{toZ-pos}
 use Rattle.numbers.specs.Bounds.{Small}
 use Rattle.numbers.specs.Words.{signed}
-use Rattle.kernel.specs.File.{Rec, numbers, nothing, Kernel, count-of, first-of, step-of, array}
+use Rattle.kernel.specs.File.{numbers, nothing, Kernel, count-of, first-of, step-of, array}
 use Rattle.kernel.proofs.Guarantees.{ArrayFits}
 use Rattle.memory.specs.View.{arrays-of, array-at, field-of, Arrays}
 use Rattle.memory.proofs.Rows.{array-is, array-there, array-fits}

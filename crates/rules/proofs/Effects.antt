@@ -12,7 +12,6 @@ use Rattle.forms.specs.declared.Form.{Form}
 use Rattle.forms.specs.Code.{form}
 use Rattle.kernel.specs.Ledger as L
 use Rattle.kernel.specs.Check as Check
-use Rattle.kernel.specs.Stand as Stand
 use Rattle.kernel.specs.Stand.{Opened, went}
 use Rattle.ledger.specs.declared.Ledger.{Ledger}
 use Rattle.ledger.specs.View.{numbered, ledger, Bounded}

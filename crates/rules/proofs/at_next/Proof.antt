@@ -1,11 +1,7 @@
 -- `rules::at_next` meets its contract: first index and step are the array's, and small.
 use Prim.Native.Nat.{_^_}
-use mathlib.Core.Path.{_≡_, sym, ap, subst, _∙_}
-use native.Mathlib.Omega.{arith}
+use mathlib.Core.Path.{sym, ap, subst, _∙_}
 use lib.IntN.{pos}
-use mir.Syntax.{w64}
-use mir.Val.{toZ}
-use mir.Facts.{toZ-pos}
 use Rattle.numbers.specs.Bounds.{Small}
 use Rattle.numbers.specs.Words.{signed}
 use Rattle.numbers.proofs.Signs.{as-returned, small-back, wider}

@@ -1,6 +1,6 @@
 -- `rules::below_count` meets its contract.
 use Prim.Native.Nat.{_^_}
-use mathlib.Core.Path.{_≡_, sym, ap, subst, _∙_}
+use mathlib.Core.Path.{sym, ap, subst, _∙_}
 use Rattle.forms.specs.Form as F
 use Rattle.forms.specs.Code.{form, Within}
 use Rattle.kernel.specs.File.{count-of, array}

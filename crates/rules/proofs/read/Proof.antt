@@ -4,7 +4,6 @@ use mathlib.Core.Path.{refl, sym, subst, _∙_}
 use native.Mathlib.Omega.{arith}
 use borrow.Author.Tests.{not-true, not-false}
 use Rattle.kernel.specs.Check as Check
-use Rattle.sections.specs.View.{rec}
 use Rattle.ledger.specs.View.{Bounded}
 use Rattle.rules.specs.declared.Walked.{Walked}
 use Rattle.rules.specs.View.{stand}

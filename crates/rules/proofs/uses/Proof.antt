@@ -1,6 +1,6 @@
 -- `rules::uses` meets its contract: one condition, and the ledger as it is.
 use Prim.Native.Nat.{_+_, _-_}
-use mathlib.Core.Path.{_≡_, refl, sym, ap, subst, _∙_}
+use mathlib.Core.Path.{refl, sym, subst, _∙_}
 use native.Mathlib.Omega.{arith}
 use borrow.Author.Tests.{not-true, not-false}
 use Rattle.kernel.specs.Ledger as L
@@ -8,8 +8,6 @@ use Rattle.kernel.specs.Stand as Stand
 use Rattle.kernel.specs.Check as Check
 use Rattle.ledger.specs.View.{ledger, Bounded}
 use Rattle.rules.specs.declared.Walked.{Walked}
-use Rattle.kernel.specs.File as File
-use Rattle.sections.specs.View.{rec}
 use Rattle.rules.proofs.Effects.{need-fails, need-holds, ruled-13, ruled-on, bounded-more}
 use borrow.Author.Needs.{needs}
 use Rattle.rules.proofs.uses.Statement.{statement}

@@ -1,0 +1,3 @@
+pub mod Loops
+pub mod Rows
+pub mod Changes
