@@ -69,7 +69,7 @@ in-order-take code level m (suc n) zero rs h = absurd (omega arith)
 in-order-take code level m (suc n) (suc k) [] h = refl
 in-order-take code level m (suc n) (suc k) (r ∷ rs) h = ap (λ t. row code level m r && t) (in-order-take code level (suc m) n k rs (omega arith))
 
-drop-take : {A : Type 0} (a b : ℕ) (xs : List A) → drop a (take (a + b) xs) ≡ take b (drop a xs)
+pub drop-take : {A : Type 0} (a b : ℕ) (xs : List A) → drop a (take (a + b) xs) ≡ take b (drop a xs)
 drop-take zero b xs =
     let e : 0 + b ≡ b = omega arith in
     ap (λ n. take n xs) e
