@@ -1,7 +1,7 @@
 -- What a rule comes to: refused with a number, or a step of the ledger.
 use Prim.Native.Nat.{ℕ, zero, suc, _+_}
 use mathlib.Core.Path.{_≡_, refl, ap, _∙_}
-use mathlib.Core.Bool.{Bool, true, false, not, _&&_}
+use mathlib.Core.Bool.{Bool, true, false, not, cond, _&&_}
 use mathlib.Core.List.{List}
 use native.Mathlib.Omega.{arith}
 use lib.Dec.{eqb}
@@ -12,12 +12,12 @@ use Rattle.forms.specs.declared.Form.{Form}
 use Rattle.forms.specs.Code.{form}
 use Rattle.kernel.specs.Ledger as L
 use Rattle.kernel.specs.Check as Check
-use Rattle.kernel.specs.Stand.{Opened, went}
+use Rattle.kernel.specs.Stand.{Opened, Stand, went}
 use Rattle.ledger.specs.declared.Ledger.{Ledger}
 use Rattle.ledger.specs.View.{numbered, ledger, Bounded}
 use Rattle.ledger.proofs.Bounds.{within-wider}
 use Rattle.rules.specs.declared.Walked.{Walked}
-use Rattle.rules.specs.View.{stand, ruled}
+use Rattle.rules.specs.View.{stand, answered, ruled}
 
 module _ {A : Type 0} (number : ℕ) (t : Bool) (f : Unit {0} → Result ℕ A) where
   pub need-fails : t ≡ false → (need number t >>= f) ≡ stop number
@@ -28,26 +28,26 @@ module _ {A : Type 0} (number : ℕ) (t : Bool) (f : Unit {0} → Result ℕ A) 
   unfolding need _>>=_
   need-holds e = ap (λ t. need number t >>= f) e
 
--- the code's refusal, with 11 to 13, and its step past one rule, some statements of the array program and one of the stream program
+-- what an answer comes to
+pub answers-stop : (number : ℕ) (d : Stand) → (number ≡ 0 → ⊥) → answered number d ≡ stop number
+unfolding answered
+answers-stop number d z = ap (λ (t : Bool). cond t (ok d) (stop number)) (ne-eqb number 0 z)
+
+pub answers-on : (number : ℕ) (d : Stand) → number ≡ 0 → answered number d ≡ ok d
+unfolding answered
+answers-on number d z = ap (λ (t : Bool). cond t (ok d) (stop number)) (eq-eqb number 0 z)
+
+-- the code's refusal, and its step past one rule, some statements of the array program and one of the stream program
 module _ (n b : ℕ) (os : List Opened) (w r : Walked) where
   abbrev refusal : ℕ → Walked
   refusal number = record { number = number; rule = w .rule; array = w .array; stream = w .stream; ledger = w .ledger }
 
-  pub ruled-11 : r ≡ refusal 11 → ruled n b os r ≡ stop 11
-  unfolding ruled
-  ruled-11 e = ap (ruled n b os) e
-
-  pub ruled-12 : r ≡ refusal 12 → ruled n b os r ≡ stop 12
-  unfolding ruled
-  ruled-12 e = ap (ruled n b os) e
-
-  pub ruled-13 : r ≡ refusal 13 → ruled n b os r ≡ stop 13
-  unfolding ruled
-  ruled-13 e = ap (ruled n b os) e
+  pub ruled-stop : (number : ℕ) → (number ≡ 0 → ⊥) → r ≡ refusal number → ruled n b os r ≡ stop number
+  ruled-stop number z e = ap (ruled n b os) e ∙ answers-stop number _ z
 
   pub ruled-on : (arrays : ℕ) (l : Ledger) (M : L.Ledger) → r ≡ record { number = 0; rule = w .rule + 1; array = w .array + arrays; stream = w .stream + 1; ledger = l } → ledger n b l ≡ M
       → ruled n b os r ≡ ok (went 1 arrays 1 os M (stand n b os w))
-  unfolding ruled went
+  unfolding answered went
   ruled-on arrays l M e f = ap (ruled n b os) e ∙ ap (λ M. ok (record { rule = w .rule + 1; array = w .array + arrays; stream = w .stream + 1; opened = os; ledger = M })) f
 
 -- a step more

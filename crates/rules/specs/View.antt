@@ -3,8 +3,12 @@ use Prim.Native.Nat.{ℕ}
 use mathlib.Core.Bool.{cond}
 use mathlib.Core.List.{List}
 use lib.Dec.{eqb}
-use Rattle.numbers.specs.Result.{Result, ok, stop}
+use Rattle.numbers.specs.Result.{Result, ok, stop, _>>=_, need}
+use Rattle.forms.specs.Form.{same}
+use Rattle.kernel.specs.File.{Rec, form, Kernel}
+use Rattle.kernel.specs.Ledger.{next-index}
 use Rattle.kernel.specs.Stand.{Opened, Stand}
+use Rattle.kernel.specs.Check.{below-count}
 use Rattle.ledger.specs.View.{ledger}
 use Rattle.rules.specs.declared.Walked.{Walked}
 
@@ -12,6 +16,16 @@ use Rattle.rules.specs.declared.Walked.{Walked}
 abbrev pub stand : (a b : ℕ) → List Opened → Walked → Stand
 stand a b os w = record { rule = w .rule; array = w .array; stream = w .stream; opened = os; ledger = ledger a b (w .ledger) }
 
--- number 0: the derivation came to stand there; any other: it is refused
-unfoldable pub ruled : (a b : ℕ) → List Opened → Walked → Result ℕ Stand
-ruled a b os w = cond (eqb (w .number) 0) (ok (stand a b os w)) (stop (w .number))
+-- number 0: the derivation goes on to d; any other: the rule is refused with it
+unfoldable pub answered : (number : ℕ) → (d : Stand) → Result ℕ Stand
+answered number d = cond (eqb number 0) (ok d) (stop number)
+
+abbrev pub ruled : (a b : ℕ) → List Opened → Walked → Result ℕ Stand
+ruled a b os w = answered (w .number) (stand a b os w)
+
+-- what rules 2 and 6 ask before they go on to d: "position below count (11); index is the next index (12)"
+unfoldable pub passing : Kernel → Stand → (a : Rec) → (d : Stand) → Result ℕ Stand
+passing K c a d = do
+  _ ← need 11 (below-count K c (a .q))
+  _ ← need 12 (same (form a) (next-index K (a .q) (c .ledger)))
+  ok d

@@ -16,7 +16,7 @@ ghost use Rattle.kernel.specs.Check as Check;
 ghost use Rattle.sections.specs.View.{rec};
 ghost use Rattle.memory.specs.View.{arrays-of, Arrays};
 ghost use Rattle.ledger.specs.View.{ledger, zero-form, Bounded};
-ghost use Rattle.rules.specs.View.{stand, ruled};
+ghost use Rattle.rules.specs.View.{stand, answered, ruled, passing};
 
 // Where the derivation stands: the next record of each section that no rule has taken, and the ledger; or, where the number is not 0, the
 // refusal of the rule there.
@@ -89,6 +89,22 @@ fn at_next(file: &[u8], n: usize, l: Ledger, q: usize, a: Rec) -> bool
     g.same(next)
 }
 
+// What stands against passing an array's stream at a record's index: 11 for a position not below the count, 12 for an index that is not the next,
+// 0 for nothing.
+fn item(file: &[u8], n: usize, l: Ledger, ls: Loops, a: Rec) -> u8
+    requires { ⌜ Arrays (now file) n × (a .q < n) × Turning ls × ((m : ℕ) × Bounded m l × (m ≤ 4096)) ⌝ }
+    ensures { λ r. ⌜ ((K : File.Kernel) (b : ℕ) (c d : Stand.Stand) → K .arrays ≡ arrays-of (now (file .entry)) n → Stand.loops (c .opened) ≡ loops ls → c .ledger ≡ ledger n b l → answered r d ≡ passing K c (rec a) d) ⌝ }
+{
+    let q = a.q as usize;
+    if !below_count(file, n, l, ls, q) {
+        return 11;
+    }
+    if !at_next(file, n, l, q, a) {
+        return 12;
+    }
+    0
+}
+
 // ---- rules
 
 // Rule 1: nothing is asked.
@@ -105,15 +121,12 @@ pub fn read(file: &[u8], n: usize, w: Walked, ls: Loops, a: Rec) -> Walked
     requires { ⌜ (w .rule ≤ 4096) × (w .array ≤ 4096) × (w .stream ≤ 4096) × Arrays (now file) n × (a .q < n) × Turning ls × ((m : ℕ) × Bounded m (w .ledger) × (m ≤ 4096)) ⌝ }
     ensures { λ r. ⌜ ((K : File.Kernel) (b : ℕ) (os : List Stand.Opened) (s : File.Rec) → K .arrays ≡ arrays-of (now (file .entry)) n → Stand.loops os ≡ loops ls → ruled n b os r ≡ Check.effect K (stand n b os w) Stand.read-rule (rec a) s) × ((m : ℕ) → Bounded m (w .ledger) → Bounded (m + 1) (r .ledger)) ⌝ }
 {
-    let q = a.q as usize;
     let l = w.ledger;
-    if !below_count(file, n, l, ls, q) {
-        return refused(w, 11);
+    let number = item(file, n, l, ls, a);
+    if number != 0 {
+        return refused(w, number);
     }
-    if !at_next(file, n, l, q, a) {
-        return refused(w, 12);
-    }
-    took(w, 1, l.read(q))
+    took(w, 1, l.read(a.q as usize))
 }
 
 // Rule 6: as read, for the output.
@@ -121,15 +134,12 @@ pub fn write(file: &[u8], n: usize, w: Walked, ls: Loops, a: Rec) -> Walked
     requires { ⌜ (w .rule ≤ 4096) × (w .array ≤ 4096) × (w .stream ≤ 4096) × Arrays (now file) n × (a .q < n) × Turning ls × ((m : ℕ) × Bounded m (w .ledger) × (m ≤ 4096)) ⌝ }
     ensures { λ r. ⌜ ((K : File.Kernel) (b : ℕ) (os : List Stand.Opened) (s : File.Rec) → K .arrays ≡ arrays-of (now (file .entry)) n → Stand.loops os ≡ loops ls → ruled n b os r ≡ Check.effect K (stand n b os w) Stand.write-rule (rec a) s) × ((m : ℕ) → Bounded m (w .ledger) → Bounded (m + 1) (r .ledger)) ⌝ }
 {
-    let q = a.q as usize;
     let l = w.ledger;
-    if !below_count(file, n, l, ls, q) {
-        return refused(w, 11);
+    let number = item(file, n, l, ls, a);
+    if number != 0 {
+        return refused(w, number);
     }
-    if !at_next(file, n, l, q, a) {
-        return refused(w, 12);
-    }
-    took(w, 1, l.write(q))
+    took(w, 1, l.write(a.q as usize))
 }
 
 // Rule 3: the position below the count (11); the buffer then holds the next index, and the position is one more.

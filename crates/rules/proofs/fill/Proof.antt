@@ -15,7 +15,7 @@ use Rattle.numbers.specs.Words.{signed}
 use Rattle.numbers.proofs.Signs.{as-returned, small-back}
 use Rattle.rules.specs.View.{stand}
 use Rattle.rules.proofs.Arrays.{lies, few, first-is, step-small, first-as, step-as}
-use Rattle.rules.proofs.Effects.{need-fails, need-holds, ruled-11, ruled-on, bounded-more}
+use Rattle.rules.proofs.Effects.{need-fails, need-holds, ruled-stop, ruled-on, bounded-more}
 use borrow.Author.Needs.{needs}
 use Rattle.rules.proofs.fill.Statement.{statement}
 use Rattle.rules.proofs.fill.Tie as tie
@@ -36,7 +36,7 @@ returns c =
     let w = c .before .before .before .before .before .before .args .w in
     let s = c .before .before .before .before .before .before .args .s in
     let n = c .before .before .before .before .before .before .args .n in
-    ((λ K b os a k e o. ruled-11 n b os w _ (c .refused .ensures) ∙ sym (need-fails 11 _ _ (sym (c .before .before .below-count .ensures K b (stand n b os w) k o refl) ∙ not-true _ (c .before .if1 .taken)))), (λ m h. subst (λ (r : Walked). Bounded (m + 1) (r .ledger)) (sym (c .refused .ensures)) (bounded-more m (w .ledger) h)))
+    ((λ K b os a k e o. ruled-stop n b os w _ 11 (λ z. omega (arith, z)) (c .refused .ensures) ∙ sym (need-fails 11 _ _ (sym (c .before .before .below-count .ensures K b (stand n b os w) k o refl) ∙ not-true _ (c .before .if1 .taken)))), (λ m h. subst (λ (r : Walked). Bounded (m + 1) (r .ledger)) (sym (c .refused .ensures)) (bounded-more m (w .ledger) h)))
 
 number-requires : tie.Need-number-requires
 number-requires c κs =
