@@ -6,7 +6,7 @@ use mathlib.Core.List.{List}
 use native.Mathlib.Omega.{arith}
 use lib.Dec.{eqb}
 use borrow.Author.Tests.{eq-eqb, ne-eqb}
-use Rattle.numbers.specs.Result.{Result, ok, stop, _>>=_, need}
+use Rattle.numbers.specs.Result.{Result, ok, stop, _>>=_, need, because}
 use Rattle.forms.specs.Form as F
 use Rattle.forms.specs.declared.Form.{Form}
 use Rattle.forms.specs.Code.{form}
@@ -42,12 +42,13 @@ module _ (n b : ℕ) (os : List Opened) (w r : Walked) where
   abbrev refusal : ℕ → Walked
   refusal number = record { number = number; rule = w .rule; array = w .array; stream = w .stream; ledger = w .ledger }
 
-  pub ruled-stop : (number : ℕ) → (number ≡ 0 → ⊥) → r ≡ refusal number → ruled n b os r ≡ stop number
-  ruled-stop number z e = ap (ruled n b os) e ∙ answers-stop number _ z
+  pub ruled-stop : (number : ℕ) → (number ≡ 0 → ⊥) → r ≡ refusal number → ruled n b os r ≡ Check.at (stand n b os w) (stop number)
+  unfolding ruled Check.at because
+  ruled-stop number z e = ap (ruled n b os) e ∙ ap (λ (t : Bool). cond t (ok (stand n b os w)) (stop (Check.break number (w .rule) (w .array) (w .stream)))) (ne-eqb number 0 z)
 
   pub ruled-on : (arrays : ℕ) (l : Ledger) (M : L.Ledger) → r ≡ record { number = 0; rule = w .rule + 1; array = w .array + arrays; stream = w .stream + 1; ledger = l } → ledger n b l ≡ M
-      → ruled n b os r ≡ ok (went 1 arrays 1 os M (stand n b os w))
-  unfolding answered went
+      → ruled n b os r ≡ Check.at (stand n b os w) (ok (went 1 arrays 1 os M (stand n b os w)))
+  unfolding ruled Check.at because went
   ruled-on arrays l M e f = ap (ruled n b os) e ∙ ap (λ M. ok (record { rule = w .rule + 1; array = w .array + arrays; stream = w .stream + 1; opened = os; ledger = M })) f
 
 -- a step more

@@ -8,7 +8,7 @@ use Rattle.forms.specs.Form.{same}
 use Rattle.kernel.specs.File.{Rec, form, Kernel}
 use Rattle.kernel.specs.Ledger.{next-index}
 use Rattle.kernel.specs.Stand.{Opened, Stand}
-use Rattle.kernel.specs.Check.{below-count}
+use Rattle.kernel.specs.Check.{below-count, Break, break}
 use Rattle.ledger.specs.View.{ledger}
 use Rattle.rules.specs.declared.Walked.{Walked}
 
@@ -20,8 +20,9 @@ stand a b os w = record { rule = w .rule; array = w .array; stream = w .stream; 
 unfoldable pub answered : (number : ℕ) → (d : Stand) → Result ℕ Stand
 answered number d = cond (eqb number 0) (ok d) (stop number)
 
-abbrev pub ruled : (a b : ℕ) → List Opened → Walked → Result ℕ Stand
-ruled a b os w = answered (w .number) (stand a b os w)
+-- the same of the code's stand, a refusal with its place
+unfoldable pub ruled : (a b : ℕ) → List Opened → Walked → Result Break Stand
+ruled a b os w = cond (eqb (w .number) 0) (ok (stand a b os w)) (stop (break (w .number) (w .rule) (w .array) (w .stream)))
 
 -- what rules 2 and 6 ask before they go on to d: "position below count (11); index is the next index (12)"
 unfoldable pub passing : Kernel → Stand → (a : Rec) → (d : Stand) → Result ℕ Stand

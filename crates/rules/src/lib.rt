@@ -110,7 +110,7 @@ fn item(file: &[u8], n: usize, l: Ledger, ls: Loops, a: Rec) -> u8
 // Rule 1: nothing is asked.
 pub fn same(w: Walked) -> Walked
     requires { ⌜ (w .rule ≤ 4096) × (w .array ≤ 4096) × (w .stream ≤ 4096) ⌝ }
-    ensures { λ r. ⌜ ((K : File.Kernel) (n b : ℕ) (os : List Stand.Opened) (a s : File.Rec) → ruled n b os r ≡ Check.effect K (stand n b os w) Stand.same-rule a s) × ((m : ℕ) → Bounded m (w .ledger) → Bounded (m + 1) (r .ledger)) ⌝ }
+    ensures { λ r. ⌜ ((K : File.Kernel) (n b : ℕ) (os : List Stand.Opened) (a s : File.Rec) → ruled n b os r ≡ Check.at (stand n b os w) (Check.effect K (stand n b os w) Stand.same-rule a s)) × ((m : ℕ) → Bounded m (w .ledger) → Bounded (m + 1) (r .ledger)) ⌝ }
 {
     let l = w.ledger;
     took(w, 1, l)
@@ -119,7 +119,7 @@ pub fn same(w: Walked) -> Walked
 // Rule 2: the position below the count (11), the load at the next index (12); then the position is one more.
 pub fn read(file: &[u8], n: usize, w: Walked, ls: Loops, a: Rec) -> Walked
     requires { ⌜ (w .rule ≤ 4096) × (w .array ≤ 4096) × (w .stream ≤ 4096) × Arrays (now file) n × (a .q < n) × Turning ls × ((m : ℕ) × Bounded m (w .ledger) × (m ≤ 4096)) ⌝ }
-    ensures { λ r. ⌜ ((K : File.Kernel) (b : ℕ) (os : List Stand.Opened) (s : File.Rec) → K .arrays ≡ arrays-of (now (file .entry)) n → Stand.loops os ≡ loops ls → ruled n b os r ≡ Check.effect K (stand n b os w) Stand.read-rule (rec a) s) × ((m : ℕ) → Bounded m (w .ledger) → Bounded (m + 1) (r .ledger)) ⌝ }
+    ensures { λ r. ⌜ ((K : File.Kernel) (b : ℕ) (os : List Stand.Opened) (s : File.Rec) → K .arrays ≡ arrays-of (now (file .entry)) n → Stand.loops os ≡ loops ls → ruled n b os r ≡ Check.at (stand n b os w) (Check.effect K (stand n b os w) Stand.read-rule (rec a) s)) × ((m : ℕ) → Bounded m (w .ledger) → Bounded (m + 1) (r .ledger)) ⌝ }
 {
     let l = w.ledger;
     let number = item(file, n, l, ls, a);
@@ -132,7 +132,7 @@ pub fn read(file: &[u8], n: usize, w: Walked, ls: Loops, a: Rec) -> Walked
 // Rule 6: as read, for the output.
 pub fn write(file: &[u8], n: usize, w: Walked, ls: Loops, a: Rec) -> Walked
     requires { ⌜ (w .rule ≤ 4096) × (w .array ≤ 4096) × (w .stream ≤ 4096) × Arrays (now file) n × (a .q < n) × Turning ls × ((m : ℕ) × Bounded m (w .ledger) × (m ≤ 4096)) ⌝ }
-    ensures { λ r. ⌜ ((K : File.Kernel) (b : ℕ) (os : List Stand.Opened) (s : File.Rec) → K .arrays ≡ arrays-of (now (file .entry)) n → Stand.loops os ≡ loops ls → ruled n b os r ≡ Check.effect K (stand n b os w) Stand.write-rule (rec a) s) × ((m : ℕ) → Bounded m (w .ledger) → Bounded (m + 1) (r .ledger)) ⌝ }
+    ensures { λ r. ⌜ ((K : File.Kernel) (b : ℕ) (os : List Stand.Opened) (s : File.Rec) → K .arrays ≡ arrays-of (now (file .entry)) n → Stand.loops os ≡ loops ls → ruled n b os r ≡ Check.at (stand n b os w) (Check.effect K (stand n b os w) Stand.write-rule (rec a) s)) × ((m : ℕ) → Bounded m (w .ledger) → Bounded (m + 1) (r .ledger)) ⌝ }
 {
     let l = w.ledger;
     let number = item(file, n, l, ls, a);
@@ -145,7 +145,7 @@ pub fn write(file: &[u8], n: usize, w: Walked, ls: Loops, a: Rec) -> Walked
 // Rule 3: the position below the count (11); the buffer then holds the next index, and the position is one more.
 pub fn fill(file: &[u8], n: usize, registers: usize, w: Walked, ls: Loops, s: Rec) -> Walked
     requires { ⌜ (w .rule ≤ 4096) × (w .array ≤ 4096) × (w .stream ≤ 4096) × Arrays (now file) n × (s .q < n) × Turning ls × ((m : ℕ) × Bounded m (w .ledger) × (m ≤ 4096)) × (registers ≤ s .p) × (s .p < registers + 16) ⌝ }
-    ensures { λ r. ⌜ ((K : File.Kernel) (b : ℕ) (os : List Stand.Opened) (a : File.Rec) → K .arrays ≡ arrays-of (now (file .entry)) n → K .registers ≡ registers → Stand.loops os ≡ loops ls → ruled n b os r ≡ Check.effect K (stand n b os w) Stand.fill-rule a (rec s)) × ((m : ℕ) → Bounded m (w .ledger) → Bounded (m + 1) (r .ledger)) ⌝ }
+    ensures { λ r. ⌜ ((K : File.Kernel) (b : ℕ) (os : List Stand.Opened) (a : File.Rec) → K .arrays ≡ arrays-of (now (file .entry)) n → K .registers ≡ registers → Stand.loops os ≡ loops ls → ruled n b os r ≡ Check.at (stand n b os w) (Check.effect K (stand n b os w) Stand.fill-rule a (rec s))) × ((m : ℕ) → Bounded m (w .ledger) → Bounded (m + 1) (r .ledger)) ⌝ }
 {
     let q = s.q as usize;
     let l = w.ledger;
@@ -175,7 +175,7 @@ fn holds(l: Ledger, buffer: usize, q: u32, f: Form) -> bool
 // Rule 4: the buffer holds the load's array and index (13).
 pub fn uses(registers: usize, w: Walked, a: Rec, s: Rec) -> Walked
     requires { ⌜ (w .rule ≤ 4096) × (w .array ≤ 4096) × (w .stream ≤ 4096) × (registers ≤ s .q) × (s .q < registers + 16) ⌝ }
-    ensures { λ r. ⌜ ((K : File.Kernel) (n b : ℕ) (os : List Stand.Opened) → K .registers ≡ registers → s .q < registers + b → ruled n b os r ≡ Check.effect K (stand n b os w) Stand.use-rule (rec a) (rec s)) × ((m : ℕ) → Bounded m (w .ledger) → Bounded (m + 1) (r .ledger)) ⌝ }
+    ensures { λ r. ⌜ ((K : File.Kernel) (n b : ℕ) (os : List Stand.Opened) → K .registers ≡ registers → s .q < registers + b → ruled n b os r ≡ Check.at (stand n b os w) (Check.effect K (stand n b os w) Stand.use-rule (rec a) (rec s))) × ((m : ℕ) → Bounded m (w .ledger) → Bounded (m + 1) (r .ledger)) ⌝ }
 {
     let l = w.ledger;
     let buffer = (s.q as usize) - registers;
@@ -199,7 +199,7 @@ fn something(l: Ledger, buffer: usize) -> bool
 // Rule 5: the buffer copied holds something (13); the other then holds the same.
 pub fn moves(registers: usize, w: Walked, s: Rec) -> Walked
     requires { ⌜ (w .rule ≤ 4096) × (w .array ≤ 4096) × (w .stream ≤ 4096) × (registers ≤ s .p) × (s .p < registers + 16) × (registers ≤ s .q) × (s .q < registers + 16) ⌝ }
-    ensures { λ r. ⌜ ((K : File.Kernel) (n b : ℕ) (os : List Stand.Opened) (a : File.Rec) → K .registers ≡ registers → s .q < registers + b → ruled n b os r ≡ Check.effect K (stand n b os w) Stand.move-rule a (rec s)) × ((m : ℕ) → Bounded m (w .ledger) → Bounded (m + 1) (r .ledger)) ⌝ }
+    ensures { λ r. ⌜ ((K : File.Kernel) (n b : ℕ) (os : List Stand.Opened) (a : File.Rec) → K .registers ≡ registers → s .q < registers + b → ruled n b os r ≡ Check.at (stand n b os w) (Check.effect K (stand n b os w) Stand.move-rule a (rec s))) × ((m : ℕ) → Bounded m (w .ledger) → Bounded (m + 1) (r .ledger)) ⌝ }
 {
     let l = w.ledger;
     let from = (s.q as usize) - registers;

@@ -8,12 +8,12 @@ use Rattle.kernel.specs.Stand as Stand
 use Rattle.kernel.specs.Check as Check
 use Rattle.ledger.specs.View.{ledger, Bounded}
 use Rattle.rules.specs.declared.Walked.{Walked}
+use Rattle.rules.specs.View.{stand}
 use Prim.Native.Nat.{_^_}
 use lib.IntN.{pos}
 use Rattle.numbers.specs.Bounds.{Small}
 use Rattle.numbers.specs.Words.{signed}
 use Rattle.numbers.proofs.Signs.{as-returned, small-back}
-use Rattle.rules.specs.View.{stand}
 use Rattle.rules.proofs.Arrays.{lies, few, first-is, step-small, first-as, step-as}
 use Rattle.rules.proofs.Effects.{need-fails, need-holds, ruled-stop, ruled-on, bounded-more}
 use borrow.Author.Needs.{needs}
@@ -36,7 +36,7 @@ returns c =
     let w = c .before .before .before .before .before .before .args .w in
     let s = c .before .before .before .before .before .before .args .s in
     let n = c .before .before .before .before .before .before .args .n in
-    ((λ K b os a k e o. ruled-stop n b os w _ 11 (λ z. omega (arith, z)) (c .refused .ensures) ∙ sym (need-fails 11 _ _ (sym (c .before .before .below-count .ensures K b (stand n b os w) k o refl) ∙ not-true _ (c .before .if1 .taken)))), (λ m h. subst (λ (r : Walked). Bounded (m + 1) (r .ledger)) (sym (c .refused .ensures)) (bounded-more m (w .ledger) h)))
+    ((λ K b os a k e o. ruled-stop n b os w _ 11 (λ z. omega (arith, z)) (c .refused .ensures) ∙ ap (Check.at (stand n b os w)) (sym (need-fails 11 _ _ (sym (c .before .before .below-count .ensures K b (stand n b os w) k o refl) ∙ not-true _ (c .before .if1 .taken))))), (λ m h. subst (λ (r : Walked). Bounded (m + 1) (r .ledger)) (sym (c .refused .ensures)) (bounded-more m (w .ledger) h)))
 
 number-requires : tie.Need-number-requires
 number-requires c κs =
@@ -77,7 +77,7 @@ returns-2 c =
       (λ K b os a k e o.
           let first = first-is (c .before .before .before .before .before .before .before .before .before .before .before .args .file .now) (c .before .before .before .before .before .before .before .before .before .before .before .args .n) (c .before .before .before .before .before .before .before .before .before .before .before .args .s .q) (c .before .before .before .before .before .before .before .before .before .before .before .pre .4) (c .before .before .before .before .before .before .before .before .before .before .before .pre .3) _ (c .before .before .before .before .before .number .ensures) .0 ∙ ap pos (c .before .before .before .before .before .number .ensures) ∙ first-as (c .before .before .before .before .before .before .before .before .before .before .before .args .file .now) (c .before .before .before .before .before .before .before .before .before .before .before .args .n) (c .before .before .before .before .before .before .before .before .before .before .before .args .s .q) (c .before .before .before .before .before .before .before .before .before .before .before .pre .4) (c .before .before .before .before .before .before .before .before .before .before .before .pre .3) K k in
           let step = as-returned {z = c .before .before .before .signed .result} (c .before .before .before .signed .ok) ∙ c .before .before .before .signed .ensures ∙ ap signed (c .before .before .before .before .number2 .ensures) ∙ step-as (c .before .before .before .before .before .before .before .before .before .before .before .args .file .now) (c .before .before .before .before .before .before .before .before .before .before .before .args .n) (c .before .before .before .before .before .before .before .before .before .before .before .args .s .q) (c .before .before .before .before .before .before .before .before .before .before .before .pre .4) (c .before .before .before .before .before .before .before .before .before .before .before .pre .3) K k in
-          ruled-on n b os w _ 0 (c .before .fill .result) _ (c .took .ensures) (c .before .fill .ensures .0 K n b (c .before .before .before .before .before .before .before .before .before .before .before .pre .3 .few) (c .before .before .before .before .before .before .before .before .before .before .before .pre .4) first step ∙ ap (λ d. L.fill-step K (s .p - d) (s .q) (ledger n b (w .ledger))) (sym e)) ∙ sym (need-holds 11 _ _ (sym (c .before .before .before .before .before .before .before .below-count .ensures K b (stand n b os w) k o refl) ∙ not-false _ (c .before .before .before .before .before .before .if1 .left)))),
+          ruled-on n b os w _ 0 (c .before .fill .result) _ (c .took .ensures) (c .before .fill .ensures .0 K n b (c .before .before .before .before .before .before .before .before .before .before .before .pre .3 .few) (c .before .before .before .before .before .before .before .before .before .before .before .pre .4) first step ∙ ap (λ d. L.fill-step K (s .p - d) (s .q) (ledger n b (w .ledger))) (sym e)) ∙ ap (Check.at (stand n b os w)) (sym (need-holds 11 _ _ (sym (c .before .before .before .before .before .before .before .below-count .ensures K b (stand n b os w) k o refl) ∙ not-false _ (c .before .before .before .before .before .before .if1 .left))))),
       (λ m h. subst (λ (r : Walked). Bounded (m + 1) (r .ledger)) (sym (c .took .ensures)) (c .before .fill .ensures .1 m h)),
     )
 

@@ -8,6 +8,7 @@ use Rattle.kernel.specs.Stand as Stand
 use Rattle.kernel.specs.Check as Check
 use Rattle.ledger.specs.View.{ledger, Bounded}
 use Rattle.rules.specs.declared.Walked.{Walked}
+use Rattle.rules.specs.View.{stand}
 use Rattle.rules.proofs.Effects.{need-fails, need-holds, ruled-stop, ruled-on, bounded-more}
 use borrow.Author.Needs.{needs}
 use Rattle.rules.proofs.moves.Statement.{statement}
@@ -39,7 +40,7 @@ unfolding Check.effect Stand.buffer
 returns c =
     let w = c .before .before .before .before .before .before .args .w in
     let s = c .before .before .before .before .before .before .args .s in
-    ((λ K n b os a e k. ruled-stop n b os w _ 13 (λ z. omega (arith, z)) (c .refused .ensures) ∙ sym (need-fails 13 _ _ (sym (c .before .before .something .ensures n b (omega (arith, c .before .before .before .before .before .before .pre .5, k)) ∙ ap (λ d. Check.something (L.holding (s .q - d) (ledger n b (w .ledger)))) (sym e)) ∙ not-true _ (c .before .if1 .taken)))), (λ m h. subst (λ (r : Walked). Bounded (m + 1) (r .ledger)) (sym (c .refused .ensures)) (bounded-more m (w .ledger) h)))
+    ((λ K n b os a e k. ruled-stop n b os w _ 13 (λ z. omega (arith, z)) (c .refused .ensures) ∙ ap (Check.at (stand n b os w)) (sym (need-fails 13 _ _ (sym (c .before .before .something .ensures n b (omega (arith, c .before .before .before .before .before .before .pre .5, k)) ∙ ap (λ d. Check.something (L.holding (s .q - d) (ledger n b (w .ledger)))) (sym e)) ∙ not-true _ (c .before .if1 .taken))))), (λ m h. subst (λ (r : Walked). Bounded (m + 1) (r .ledger)) (sym (c .refused .ensures)) (bounded-more m (w .ledger) h)))
 
 moved-requires : tie.Need-moved-requires
 moved-requires c κs =
@@ -54,7 +55,7 @@ unfolding Check.effect Stand.buffer
 returns-2 c =
     let w = c .before .before .before .before .before .before .before .args .w in
     let s = c .before .before .before .before .before .before .before .args .s in
-    ((λ K n b os a e k. ruled-on n b os w _ 0 (c .before .moved .result) _ (c .took .ensures) (c .before .moved .ensures .0 n b (omega (arith, c .before .before .before .before .before .before .before .pre .5, k)) ∙ ap (λ d. L.move-step (s .p - d) (s .q - d) (ledger n b (w .ledger))) (sym e)) ∙ sym (need-holds 13 _ _ (sym (c .before .before .before .something .ensures n b (omega (arith, c .before .before .before .before .before .before .before .pre .5, k)) ∙ ap (λ d. Check.something (L.holding (s .q - d) (ledger n b (w .ledger)))) (sym e)) ∙ not-false _ (c .before .before .if1 .left)))), (λ m h. subst (λ (r : Walked). Bounded (m + 1) (r .ledger)) (sym (c .took .ensures)) (bounded-more m _ (c .before .moved .ensures .1 m h))))
+    ((λ K n b os a e k. ruled-on n b os w _ 0 (c .before .moved .result) _ (c .took .ensures) (c .before .moved .ensures .0 n b (omega (arith, c .before .before .before .before .before .before .before .pre .5, k)) ∙ ap (λ d. L.move-step (s .p - d) (s .q - d) (ledger n b (w .ledger))) (sym e)) ∙ ap (Check.at (stand n b os w)) (sym (need-holds 13 _ _ (sym (c .before .before .before .something .ensures n b (omega (arith, c .before .before .before .before .before .before .before .pre .5, k)) ∙ ap (λ d. Check.something (L.holding (s .q - d) (ledger n b (w .ledger)))) (sym e)) ∙ not-false _ (c .before .before .if1 .left))))), (λ m h. subst (λ (r : Walked). Bounded (m + 1) (r .ledger)) (sym (c .took .ensures)) (bounded-more m _ (c .before .moved .ensures .1 m h))))
 
 pub moves-spec : {M : Type 1} → statement M
 moves-spec =

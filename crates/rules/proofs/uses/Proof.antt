@@ -1,6 +1,6 @@
 -- `rules::uses` meets its contract: one condition, and the ledger as it is.
 use Prim.Native.Nat.{_+_, _-_}
-use mathlib.Core.Path.{refl, sym, subst, _∙_}
+use mathlib.Core.Path.{refl, sym, ap, subst, _∙_}
 use native.Mathlib.Omega.{arith}
 use borrow.Author.Tests.{not-true, not-false}
 use Rattle.kernel.specs.Ledger as L
@@ -8,6 +8,7 @@ use Rattle.kernel.specs.Stand as Stand
 use Rattle.kernel.specs.Check as Check
 use Rattle.ledger.specs.View.{ledger, Bounded}
 use Rattle.rules.specs.declared.Walked.{Walked}
+use Rattle.rules.specs.View.{stand}
 use Rattle.rules.proofs.Effects.{need-fails, need-holds, ruled-stop, ruled-on, bounded-more}
 use borrow.Author.Needs.{needs}
 use Rattle.rules.proofs.uses.Statement.{statement}
@@ -37,7 +38,7 @@ returns c =
     let a = c .before .before .before .before .before .before .args .a in
     let s = c .before .before .before .before .before .before .args .s in
     let d = c .before .before .before .before .before .before .args .registers in
-    ((λ K n b os e k. ruled-stop n b os w _ 13 (λ z. omega (arith, z)) (c .refused .ensures) ∙ sym (need-fails 13 _ _ (sym (c .before .before .holds .ensures n b (omega (arith, c .before .before .before .before .before .before .pre .3, k)) ∙ (λ i. L.holds-just (L.held (a .q) (c .before .before .before .form-of .ensures i)) (L.holding (s .q - sym e i) (ledger n b (w .ledger))))) ∙ not-true _ (c .before .if1 .taken)))), (λ m h. subst (λ (r : Walked). Bounded (m + 1) (r .ledger)) (sym (c .refused .ensures)) (bounded-more m (w .ledger) h)))
+    ((λ K n b os e k. ruled-stop n b os w _ 13 (λ z. omega (arith, z)) (c .refused .ensures) ∙ ap (Check.at (stand n b os w)) (sym (need-fails 13 _ _ (sym (c .before .before .holds .ensures n b (omega (arith, c .before .before .before .before .before .before .pre .3, k)) ∙ (λ i. L.holds-just (L.held (a .q) (c .before .before .before .form-of .ensures i)) (L.holding (s .q - sym e i) (ledger n b (w .ledger))))) ∙ not-true _ (c .before .if1 .taken))))), (λ m h. subst (λ (r : Walked). Bounded (m + 1) (r .ledger)) (sym (c .refused .ensures)) (bounded-more m (w .ledger) h)))
 
 took-requires : tie.Need-took-requires
 took-requires c κs =
@@ -50,7 +51,7 @@ returns-2 c =
     let a = c .before .before .before .before .before .before .args .a in
     let s = c .before .before .before .before .before .before .args .s in
     let d = c .before .before .before .before .before .before .args .registers in
-    ((λ K n b os e k. ruled-on n b os w _ 1 (w .ledger) _ (c .took .ensures) refl ∙ sym (need-holds 13 _ _ (sym (c .before .before .holds .ensures n b (omega (arith, c .before .before .before .before .before .before .pre .3, k)) ∙ (λ i. L.holds-just (L.held (a .q) (c .before .before .before .form-of .ensures i)) (L.holding (s .q - sym e i) (ledger n b (w .ledger))))) ∙ not-false _ (c .before .if1 .left)))), (λ m h. subst (λ (r : Walked). Bounded (m + 1) (r .ledger)) (sym (c .took .ensures)) (bounded-more m (w .ledger) h)))
+    ((λ K n b os e k. ruled-on n b os w _ 1 (w .ledger) _ (c .took .ensures) refl ∙ ap (Check.at (stand n b os w)) (sym (need-holds 13 _ _ (sym (c .before .before .holds .ensures n b (omega (arith, c .before .before .before .before .before .before .pre .3, k)) ∙ (λ i. L.holds-just (L.held (a .q) (c .before .before .before .form-of .ensures i)) (L.holding (s .q - sym e i) (ledger n b (w .ledger))))) ∙ not-false _ (c .before .if1 .left))))), (λ m h. subst (λ (r : Walked). Bounded (m + 1) (r .ledger)) (sym (c .took .ensures)) (bounded-more m (w .ledger) h)))
 
 pub uses-spec : {M : Type 1} → statement M
 uses-spec =

@@ -1,6 +1,6 @@
 -- `rules::write` meets its contract: what stands against it, or a step of the ledger.
 use Prim.Native.Nat.{_+_}
-use mathlib.Core.Path.{refl, sym, subst, _∙_}
+use mathlib.Core.Path.{refl, sym, ap, subst, _∙_}
 use native.Mathlib.Omega.{arith}
 use Rattle.kernel.specs.Check as Check
 use Rattle.ledger.specs.View.{Bounded}
@@ -24,7 +24,7 @@ unfolding Check.effect passing
 returns c =
     let w = c .before .before .before .before .before .args .w in
     let n = c .before .before .before .before .before .args .n in
-    ((λ K b os s k o. ruled-stop n b os w _ _ (c .before .if1 .taken) (c .refused .ensures) ∙ sym (answers-stop _ _ (c .before .if1 .taken)) ∙ c .before .before .item .ensures K b (stand n b os w) _ k o refl), (λ m h. subst (λ (r : Walked). Bounded (m + 1) (r .ledger)) (sym (c .refused .ensures)) (bounded-more m (w .ledger) h)))
+    ((λ K b os s k o. ruled-stop n b os w _ _ (c .before .if1 .taken) (c .refused .ensures) ∙ ap (Check.at (stand n b os w)) (sym (answers-stop _ _ (c .before .if1 .taken)) ∙ c .before .before .item .ensures K b (stand n b os w) _ k o refl)), (λ m h. subst (λ (r : Walked). Bounded (m + 1) (r .ledger)) (sym (c .refused .ensures)) (bounded-more m (w .ledger) h)))
 
 cast-write : tie.Need-cast-write
 cast-write c = search needs
@@ -42,7 +42,7 @@ unfolding Check.effect passing
 returns-2 c =
     let w = c .before .before .before .before .before .before .before .args .w in
     let n = c .before .before .before .before .before .before .before .args .n in
-    ((λ K b os s k o. ruled-on n b os w _ 1 (c .before .write .result) _ (c .took .ensures) (c .before .write .ensures .0 n b (c .before .before .before .before .before .before .before .pre .4)) ∙ sym (answers-on _ _ (c .before .before .before .if1 .left)) ∙ c .before .before .before .before .item .ensures K b (stand n b os w) _ k o refl), (λ m h. subst (λ (r : Walked). Bounded (m + 1) (r .ledger)) (sym (c .took .ensures)) (c .before .write .ensures .1 m h)))
+    ((λ K b os s k o. ruled-on n b os w _ 1 (c .before .write .result) _ (c .took .ensures) (c .before .write .ensures .0 n b (c .before .before .before .before .before .before .before .pre .4)) ∙ ap (Check.at (stand n b os w)) (sym (answers-on _ _ (c .before .before .before .if1 .left)) ∙ c .before .before .before .before .item .ensures K b (stand n b os w) _ k o refl)), (λ m h. subst (λ (r : Walked). Bounded (m + 1) (r .ledger)) (sym (c .took .ensures)) (c .before .write .ensures .1 m h)))
 
 pub write-spec : {M : Type 1} → statement M
 write-spec =
