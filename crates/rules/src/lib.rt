@@ -28,7 +28,7 @@ pub struct Walked {
     pub ledger: Ledger,
 }
 
-fn refused(w: Walked, number: u8) -> Walked
+pub fn refused(w: Walked, number: u8) -> Walked
     ensures { λ r. ⌜ r ≡ record { number = number; rule = w .rule; array = w .array; stream = w .stream; ledger = w .ledger } ⌝ }
 {
     let ledger = w.ledger;
@@ -42,7 +42,7 @@ fn refused(w: Walked, number: u8) -> Walked
 }
 
 // Past one record of the derivation, these of the array program and one of the stream program.
-fn took(w: Walked, arrays: usize, ledger: Ledger) -> Walked
+pub fn took(w: Walked, arrays: usize, ledger: Ledger) -> Walked
     requires { ⌜ (w .rule ≤ 4096) × (w .array ≤ 4096) × (w .stream ≤ 4096) × (arrays ≤ 1) ⌝ }
     ensures { λ r. ⌜ r ≡ record { number = 0; rule = w .rule + 1; array = w .array + arrays; stream = w .stream + 1; ledger = ledger } ⌝ }
 {
