@@ -1,0 +1,125 @@
+//! An answer of the check or of a run, in words, with the records that it speaks of.
+
+use crate::kernel::{sizes, Kernel, Section};
+use crate::line::Scope;
+use crate::unpack;
+use crate::words;
+
+/// The lines that explain an answer of FILE; the error says what the answer should look like.
+pub fn explain(file: &[u8], answer: &[&str]) -> Result<String, String> {
+    let (kind, numbers) = answer.split_first().ok_or("no answer to explain")?;
+    let numbers: Option<Vec<u32>> = numbers.iter().map(|word| word.parse().ok()).collect();
+    let numbers = numbers.ok_or("the numbers of an answer are whole numbers from 0 up")?;
+    let scope = Kernel::whole(file).map(unpack::scope);
+    match (*kind, numbers.as_slice()) {
+        ("accepted", []) => Ok("accepted: the derivation follows the rules to its end, so both programs do the same on every input.\n".into()),
+        ("read", &[number, section, record]) => {
+            let title = title(words::reading(number), "read", number, "1 to 5")?;
+            Ok(title + &or_broken(scope, |scope| read_place(number, section, record, scope)))
+        }
+        ("check", &[number, derivation, array, stream]) => {
+            let title = title(words::checking(number), "check", number, "10 to 19")?;
+            Ok(title + &or_broken(scope, |scope| check_places(number, [derivation, array, stream], scope)))
+        }
+        ("run" | "stream", &[number, statement]) => {
+            let title = title(words::running(number), kind, number, "21 or 31 to 35")?;
+            let program = if *kind == "run" { Section::ArrayProgram } else { Section::StreamProgram };
+            Ok(title + &or_broken(scope, |scope| run_place(number, program, statement, scope)))
+        }
+        _ => Err("expected 'accepted', 'read N SECTION RECORD', 'check N DERIVATION ARRAY STREAM', 'run REASON STATEMENT' or 'stream REASON STATEMENT'".into()),
+    }
+}
+
+fn title(meaning: Option<[&str; 2]>, kind: &str, number: u32, range: &str) -> Result<String, String> {
+    match meaning {
+        Some([meaning, advice]) => Ok(format!("{kind} {number}: {meaning}.\n{advice}\n")),
+        None => Err(format!("'{kind} {number}' is no answer; expected {range}")),
+    }
+}
+
+fn or_broken(scope: Result<Scope, String>, places: impl Fn(&Scope) -> String) -> String {
+    match scope {
+        Ok(scope) => places(&scope),
+        Err(broken) => format!("In this file: {broken}.\n"),
+    }
+}
+
+fn read_place(number: u32, section: u32, record: u32, scope: &Scope) -> String {
+    let Kernel { registers, buffers, .. } = scope.kernel;
+    match (section, Section::numbered(section)) {
+        (0, _) => "The file's sections are whole here: is this the file that was checked?\n".to_string(),
+        (1, _) => format!("  {}\n", unpack::count("registers", registers, 1, 32)),
+        (2, _) => format!("  {}\n", unpack::count("buffers", buffers, 0, 16)),
+        (_, Some(section)) if number == 2 => {
+            format!("  section '{}' has {} records\n", section.title(), scope.kernel.records(section).len())
+        }
+        (_, Some(section)) => shown(section, record, scope),
+        _ => format!("There is no section {section}; sections are numbered 1 to 6.\n"),
+    }
+}
+
+fn check_places(number: u32, [derivation, array, stream]: [u32; 3], scope: &Scope) -> String {
+    let mut text = String::from("The rule, and the next statements that no rule has taken:\n");
+    text += &shown(Section::Derivation, derivation, scope);
+    text += &shown(Section::ArrayProgram, array, scope);
+    text += &shown(Section::StreamProgram, stream, scope);
+    let opening = match number {
+        10 | 14 => Some(derivation as usize),
+        15 => opening(derivation as usize, scope),
+        _ => None,
+    };
+    let rows = opening.map_or(0..0, |opening| rows(opening, scope));
+    if !rows.is_empty() {
+        text += "The hold rows:\n";
+        text.extend(rows.map(|row| shown(Section::Derivation, row as u32, scope)));
+    }
+    if matches!(number, 11 | 12 | 19) {
+        text += "The arrays and the orders of their streams:\n";
+        text.extend((0..scope.kernel.arrays().len()).map(|array| shown(Section::Arrays, array as u32, scope)));
+    }
+    text
+}
+
+fn run_place(number: u32, program: Section, statement: u32, scope: &Scope) -> String {
+    if number != 21 {
+        return shown(program, statement, scope);
+    }
+    match sizes(&scope.kernel) {
+        Ok(sizes) => sizes.iter().map(|(name, size)| format!("  {name} {size}\n")).collect(),
+        Err(what) => format!("{what}\n"),
+    }
+}
+
+/// One place of a section: its number and its line, or that it is behind the section's records.
+fn shown(section: Section, number: u32, scope: &Scope) -> String {
+    let records = scope.kernel.records(section);
+    let line = match records.get(number as usize) {
+        Some(_) => unpack::words(section, number as usize, scope),
+        None if number as usize == records.len() => "(the section's end: past its last record)".to_string(),
+        None => format!("(no such place: the section has only {} records)", records.len()),
+    };
+    format!("  {:<14} {number:>4}: {line}\n", section.title())
+}
+
+/// The numbers of the hold rows behind a for.
+fn rows(opening: usize, scope: &Scope) -> std::ops::Range<usize> {
+    let records = scope.kernel.records(Section::Derivation);
+    let first = opening.saturating_add(1).min(records.len());
+    match records.get(opening) {
+        Some([7, ..]) => first..first + records[first..].iter().take_while(|row| row[0] == 11 || row[0] == 12).count(),
+        _ => first..first,
+    }
+}
+
+/// The for that the end at this place closes.
+fn opening(end: usize, scope: &Scope) -> Option<usize> {
+    let mut open = Vec::new();
+    for (number, record) in scope.kernel.records(Section::Derivation).iter().enumerate().take(end) {
+        match record[0] {
+            7 | 8 => open.push(number),
+            10 => drop(open.pop()),
+            _ => {}
+        }
+    }
+    open.pop()
+}
