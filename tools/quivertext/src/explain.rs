@@ -1,6 +1,6 @@
 //! An answer of the check or of a run, in words, with the records that it speaks of.
 
-use crate::kernel::{sizes, Kernel, Section};
+use crate::kernel::{count_of, sizes, Kernel, Section};
 use crate::line::Scope;
 use crate::unpack;
 use crate::words;
@@ -13,6 +13,7 @@ pub fn explain(file: &[u8], answer: &[&str]) -> Result<String, String> {
     let scope = Kernel::whole(file).map(unpack::scope);
     match (*kind, numbers.as_slice()) {
         ("accepted", []) => Ok("accepted: the derivation follows the rules to its end, so both programs do the same on every input.\n".into()),
+        ("read", &[2, section, _]) => Ok(title(words::reading(2), "read", 2, "1 to 5")? + &counted(file, section)),
         ("read", &[number, section, record]) => {
             let title = title(words::reading(number), "read", number, "1 to 5")?;
             Ok(title + &or_broken(scope, |scope| read_place(number, section, record, scope)))
@@ -44,17 +45,32 @@ fn or_broken(scope: Result<Scope, String>, places: impl Fn(&Scope) -> String) ->
     }
 }
 
+fn counted(file: &[u8], section: u32) -> String {
+    let names = ["registers", "buffers", "arrays", "array program", "stream program", "derivation"];
+    let name = (section as usize).checked_sub(1).and_then(|place| names.get(place));
+    match (name, count_of(file, section)) {
+        (Some(name), Some(count)) => format!("  {name}: the count is {count}\n"),
+        _ => format!("There is no count of section {section} in this file.\n"),
+    }
+}
+
 fn read_place(number: u32, section: u32, record: u32, scope: &Scope) -> String {
-    let Kernel { registers, buffers, .. } = scope.kernel;
-    match (section, Section::numbered(section)) {
-        (0, _) => "The file's sections are whole here: is this the file that was checked?\n".to_string(),
-        (1, _) => format!("  {}\n", unpack::count("registers", registers, 1, 32)),
-        (2, _) => format!("  {}\n", unpack::count("buffers", buffers, 0, 16)),
-        (_, Some(section)) if number == 2 => {
-            format!("  section '{}' has {} records\n", section.title(), scope.kernel.records(section).len())
+    match Section::numbered(section) {
+        Some(section) if number == 3 => shown(section, record, scope) + &field(section, record, scope),
+        Some(section) => shown(section, record, scope),
+        None if section == 0 => "The file's sections are whole: is this the file that was read?\n".to_string(),
+        None => format!("Section {section} has no records; those with records are 3 to 6.\n"),
+    }
+}
+
+/// What of a record is outside its range.
+fn field(section: Section, record: u32, scope: &Scope) -> String {
+    match unpack::wrong(section, record as usize, scope) {
+        Some(what) => format!("Outside its range: {what}.\n"),
+        None if section == Section::Arrays => {
+            "Taken by itself this record reads: look at the lengths up to here.\n".to_string()
         }
-        (_, Some(section)) => shown(section, record, scope),
-        _ => format!("There is no section {section}; sections are numbered 1 to 6.\n"),
+        None => String::new(),
     }
 }
 

@@ -90,6 +90,17 @@ impl Kernel {
     }
 }
 
+/// The count of the section with document 01's number, as far as a file goes.
+pub fn count_of(bytes: &[u8], section: u32) -> Option<i32> {
+    let numbers = numbers(bytes).ok()?;
+    let mut place: usize = 0;
+    for number in 1..section.min(7) {
+        let records = if number < 3 { 0 } else { usize::try_from(*numbers.get(place)?).ok()? };
+        place = place.checked_add(records.checked_mul(8)?)?.checked_add(1)?;
+    }
+    numbers.get(place).copied().filter(|_| (1..=6).contains(&section))
+}
+
 /// Takes so many numbers off the rest of a file.
 fn take<'a>(rest: &mut &'a [i32], count: usize, what: &str) -> Result<&'a [i32], String> {
     let Some((taken, behind)) = rest.split_at_checked(count) else {

@@ -42,7 +42,7 @@ fn unknown(word: &str, section: Section) -> String {
 fn raw(words: &mut Words) -> Result<Record, String> {
     let mut record = [0; 8];
     for number in &mut record {
-        *number = words.number("one of the eight numbers of raw", i32::MIN, i32::MAX)?;
+        *number = words.number("raw", i32::MIN, i32::MAX)?;
     }
     Ok(record)
 }
@@ -67,9 +67,9 @@ fn array(first: &str, words: &mut Words, scope: &Scope) -> Result<Record, String
         word = words.next("'length'")?;
     }
     if word != "length" {
-        return Err(format!("'{word}'; expected 'length'"));
+        return Err(format!("found '{word}'; expected 'length'"));
     }
-    let length = words.number("a length", 1, 4096)?;
+    let length = words.number("length", 1, 4096)?;
     let first = words.named("first", 0, length - 1)?;
     let count = words.named("count", 1, length)?;
     let step = words.named("step", -4096, 4096)?;
@@ -182,44 +182,40 @@ impl<'a> Words<'a> {
     }
 
     pub fn number(&mut self, what: &str, low: i32, high: i32) -> Result<i32, String> {
-        let word = self.next(what)?;
+        let word = self.next(&format!("a number for {what}"))?;
         match word.parse() {
             Ok(number) if (low..=high).contains(&number) => Ok(number),
-            _ => Err(format!("'{word}'; expected {what}, {low} to {high}")),
+            _ => Err(format!("{what} '{word}'; expected a number, {low} to {high}")),
         }
     }
 
     fn named(&mut self, name: &str, low: i32, high: i32) -> Result<i32, String> {
         match self.next(&format!("'{name}'"))? {
-            word if word == name => self.number(&format!("the number of '{name}'"), low, high),
-            word => Err(format!("'{word}'; expected '{name}'")),
+            word if word == name => self.number(name, low, high),
+            word => Err(format!("found '{word}'; expected '{name}'")),
         }
     }
 
     fn register(&mut self, section: Section, scope: &Scope) -> Result<i32, String> {
         let Kernel { registers, buffers, .. } = scope.kernel;
-        let mut expected = format!("a register, r0 to r{}", i64::from(registers) - 1);
+        let mut expected = format!("r0 to r{}", i64::from(registers) - 1);
         let buffered = section == Section::StreamProgram && buffers > 0;
         if buffered {
-            expected += &format!(", or a buffer, b0 to b{}", buffers - 1);
+            expected += &format!(" or b0 to b{}", buffers - 1);
         }
         let word = self.next(&expected)?;
         if let Some(number) = numbered(word, 'r', registers) {
             return Ok(number);
         }
         let buffer = numbered(word, 'b', buffers).filter(|_| buffered).and_then(|buffer| buffer.checked_add(registers));
-        buffer.ok_or_else(|| format!("'{word}'; expected {expected}"))
+        buffer.ok_or_else(|| format!("no register '{word}' here; expected {expected}"))
     }
 
     fn buffer(&mut self, scope: &Scope) -> Result<i32, String> {
         let buffers = scope.kernel.buffers;
-        let expected = if buffers > 0 {
-            format!("a buffer, b0 to b{}", buffers - 1)
-        } else {
-            "no buffer row: there are no buffers".into()
-        };
+        let expected = if buffers > 0 { format!("b0 to b{}", buffers - 1) } else { "no row of a buffer".to_string() };
         let word = self.next(&expected)?;
-        numbered(word, 'b', buffers).ok_or_else(|| format!("'{word}'; expected {expected}"))
+        numbered(word, 'b', buffers).ok_or_else(|| format!("no buffer '{word}'; expected {expected}"))
     }
 
     /// An array by its name or its number.

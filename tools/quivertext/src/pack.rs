@@ -61,7 +61,7 @@ fn take_line(content: &str, stage: &mut Stage, scope: &mut Scope) -> Result<(), 
         }
         Stage::Buffers => {
             if !is_heading(content, Section::Arrays) {
-                return Err(format!("'{content}'; expected 'arrays'"));
+                return Err(format!("found '{content}'; expected 'arrays'"));
             }
             *stage = Stage::In(Section::Arrays);
         }
@@ -94,15 +94,14 @@ fn count(content: &str, name: &str, low: i32, high: i32) -> Result<i32, String> 
     let mut words = Words { rest: content };
     let word = words.next(name)?;
     if word != name {
-        return Err(format!("'{word}'; expected '{name} N'"));
+        return Err(format!("found '{word}'; expected '{name} N'"));
     }
-    let what = format!("how many {name} there are");
     let number = match words.rest.trim().strip_prefix("raw ") {
         Some(rest) => {
             words.rest = rest;
-            words.number(&what, i32::MIN, i32::MAX)?
+            words.number(name, i32::MIN, i32::MAX)?
         }
-        None => words.number(&what, low, high)?,
+        None => words.number(name, low, high)?,
     };
     words.end()?;
     Ok(number)

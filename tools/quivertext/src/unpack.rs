@@ -12,7 +12,7 @@ pub fn scope(kernel: Kernel) -> Scope {
     let mut scope = Scope { kernel, names: Vec::new() };
     for (number, array) in scope.kernel.arrays().iter().enumerate() {
         let name = if array[0] == INPUT { format!("in{number}") } else { format!("out{number}") };
-        let said = line::parse(&array_words(*array, &name), Section::Arrays, &scope).as_ref() == Ok(array);
+        let said = wrong(Section::Arrays, number, &scope).is_none();
         scope.names.push(if said { name } else { String::new() });
     }
     scope
@@ -39,7 +39,7 @@ pub fn unpack(kernel: Kernel) -> String {
 }
 
 /// Counts that do not read stand behind `raw`.
-pub fn count(name: &str, number: i32, low: i32, high: i32) -> String {
+fn count(name: &str, number: i32, low: i32, high: i32) -> String {
     let raw = if (low..=high).contains(&number) { "" } else { "raw " };
     format!("{name} {raw}{number}")
 }
@@ -58,7 +58,7 @@ fn section_text(section: Section, scope: &Scope) -> String {
         let depth = if word == "else" || word == "end" { open.len().saturating_sub(1) } else { open.len() };
         let level = open.iter().filter(|(_, is_for)| *is_for).count();
         let comment = match (section, word) {
-            (_, "raw") => "a code or a field outside its range".to_string(),
+            (_, "raw") => format!("does not read: {}", wrong(section, number, scope).unwrap_or_default()),
             (Section::Derivation, _) => tied(*record, scope, &mut array, &mut stream),
             (_, "else" | "end") => match open.last() {
                 Some((opening, _)) => format!("{word} of {opening}"),
@@ -76,29 +76,41 @@ fn section_text(section: Section, scope: &Scope) -> String {
     text
 }
 
-/// A record as a line, "" past the section's end. What words cannot say, or would say otherwise, stays raw.
+/// A record as a line, "" past the section's end. What words cannot say stays raw.
 pub fn words(section: Section, number: usize, scope: &Scope) -> String {
     let Some(record) = scope.kernel.records(section).get(number) else { return String::new() };
-    let (line, said) = match section {
-        Section::Arrays => {
-            let name = &scope.names[number];
-            (array_words(*record, name), !name.is_empty())
-        }
-        Section::ArrayProgram | Section::StreamProgram => {
-            checked(statement_words(*record, section, scope), record, section, scope)
-        }
-        Section::Derivation => checked(rule_words(*record, scope), record, section, scope),
-    };
-    if said {
-        return line;
+    match wrong(section, number, scope) {
+        None => attempt(*record, section, number, scope),
+        Some(_) => record.iter().fold("raw".to_string(), |line, number| format!("{line} {number}")),
     }
-    record.iter().fold("raw".to_string(), |line, number| format!("{line} {number}"))
 }
 
-/// A line, and whether it packs to the record.
-fn checked(line: String, record: &Record, section: Section, scope: &Scope) -> (String, bool) {
-    let said = line::parse(&line, section, scope).as_ref() == Ok(record);
-    (line, said)
+/// Why words cannot say a record: what is outside its range.
+pub fn wrong(section: Section, number: usize, scope: &Scope) -> Option<String> {
+    let record = scope.kernel.records(section).get(number)?;
+    let codes = [2, 11, 11, 12][section as usize];
+    if !(1..=codes).contains(&record[0]) {
+        return Some(format!("code {}; expected 1 to {codes}", record[0]));
+    }
+    // an array's own name is not taken yet where its line stands
+    let above = Scope { kernel: Kernel::new(0, 0), names: Vec::new() };
+    let reading = if section == Section::Arrays { &above } else { scope };
+    let said = match line::parse(&attempt(*record, section, number, scope), section, reading) {
+        Ok(said) => said,
+        Err(what) => return Some(what),
+    };
+    let place = record.iter().zip(said).position(|(is, said)| *is != said)?;
+    let field = ["code", "p", "q", "k", "x0", "x1", "x2", "x3"][place];
+    Some(format!("field {field} is {}; expected {}", record[place], said[place]))
+}
+
+/// The line for a record, if words can say it.
+fn attempt(record: Record, section: Section, number: usize, scope: &Scope) -> String {
+    match section {
+        Section::Arrays => array_words(record, scope.names.get(number).map_or("", String::as_str)),
+        Section::ArrayProgram | Section::StreamProgram => statement_words(record, section, scope),
+        Section::Derivation => rule_words(record, scope),
+    }
 }
 
 fn array_words(record: Record, name: &str) -> String {
@@ -133,7 +145,7 @@ fn rule_words(record: Record, scope: &Scope) -> String {
         11 => format!("position {} {form}", array(p, scope)),
         12 if q == -1 => format!("buffer b{p} nothing"),
         12 => format!("buffer b{p} {} {form}", array(q, scope)),
-        _ => place(code, 1).and_then(|place| RULES.get(place)).unwrap_or(&"raw").to_string(),
+        _ => place(code, 1).and_then(|place| RULES.get(place)).unwrap_or(&"").to_string(),
     }
 }
 
@@ -142,8 +154,9 @@ fn form_of(record: Record) -> form::Form {
     form
 }
 
-fn operator(number: i32) -> &'static str {
-    place(number, 1).and_then(|place| OPERATORS.get(place)).unwrap_or(&"raw")
+fn operator(number: i32) -> String {
+    let word = place(number, 1).and_then(|place| OPERATORS.get(place));
+    word.map_or_else(|| format!("operator-{number}"), |word| word.to_string())
 }
 
 /// How far a number is above the lowest.
