@@ -5,6 +5,11 @@ use crate::line::Scope;
 use crate::unpack;
 use crate::words;
 
+const ACCEPTED: &str =
+    "accepted: the derivation follows the rules to its end, so both programs do the same on every input.\n";
+const ANSWERS: &str = "expected 'accepted', 'read N SECTION RECORD', 'check N DERIVATION ARRAY STREAM', \
+    'run REASON STATEMENT' or 'stream REASON STATEMENT'";
+
 /// The lines that explain an answer of FILE; the error says what the answer should look like.
 pub fn explain(file: &[u8], answer: &[&str]) -> Result<String, String> {
     let (kind, numbers) = answer.split_first().ok_or("no answer to explain")?;
@@ -12,7 +17,7 @@ pub fn explain(file: &[u8], answer: &[&str]) -> Result<String, String> {
     let numbers = numbers.ok_or("the numbers of an answer are whole numbers from 0 up")?;
     let scope = Kernel::whole(file).map(unpack::scope);
     match (*kind, numbers.as_slice()) {
-        ("accepted", []) => Ok("accepted: the derivation follows the rules to its end, so both programs do the same on every input.\n".into()),
+        ("accepted", []) => Ok(ACCEPTED.to_string()),
         ("read", &[2, section, _]) => Ok(title(words::reading(2), "read", 2, "1 to 5")? + &counted(file, section)),
         ("read", &[number, section, record]) => {
             let title = title(words::reading(number), "read", number, "1 to 5")?;
@@ -27,7 +32,7 @@ pub fn explain(file: &[u8], answer: &[&str]) -> Result<String, String> {
             let program = if *kind == "run" { Section::ArrayProgram } else { Section::StreamProgram };
             Ok(title + &or_broken(scope, |scope| run_place(number, program, statement, scope)))
         }
-        _ => Err("expected 'accepted', 'read N SECTION RECORD', 'check N DERIVATION ARRAY STREAM', 'run REASON STATEMENT' or 'stream REASON STATEMENT'".into()),
+        _ => Err(ANSWERS.to_string()),
     }
 }
 

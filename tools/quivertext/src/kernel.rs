@@ -113,10 +113,11 @@ fn take<'a>(rest: &mut &'a [i32], count: usize, what: &str) -> Result<&'a [i32],
 
 /// A row of signed 32-bit numbers, low byte first.
 pub fn numbers(bytes: &[u8]) -> Result<Vec<i32>, String> {
-    if bytes.len() % 4 != 0 {
+    let fours = bytes.chunks_exact(4);
+    if !fours.remainder().is_empty() {
         return Err(format!("{} bytes are not whole 32-bit numbers; expected a multiple of 4", bytes.len()));
     }
-    Ok(bytes.chunks_exact(4).map(|four| i32::from_le_bytes([four[0], four[1], four[2], four[3]])).collect())
+    Ok(fours.map(|four| i32::from_le_bytes([four[0], four[1], four[2], four[3]])).collect())
 }
 
 /// How many numbers each of the four lent memories has, with its name; an array that does not read has no length.

@@ -231,7 +231,7 @@ impl<'a> Words<'a> {
     }
 
     fn side(&mut self, code: i32, scope: &Scope) -> Result<i32, String> {
-        let word = self.rest.trim().split_whitespace().next().unwrap_or("").to_string();
+        let word = self.rest.split_whitespace().next().unwrap_or("").to_string();
         let array = self.array(scope)?;
         let wanted = if code == INPUT { "input" } else { "output" };
         match scope.kernel.arrays().get(array as usize) {

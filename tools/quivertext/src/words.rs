@@ -9,11 +9,13 @@ pub fn reading(number: u32) -> Option<[&'static str; 2]> {
         ],
         2 => [
             "a count outside its range",
-            "Ranges: registers 1 to 32, buffers 0 to 16, arrays 1 to 8, statements 0 to 256 a program, derivation records 0 to 1,024.",
+            "Ranges: registers 1 to 32, buffers 0 to 16, arrays 1 to 8, statements 0 to 256 a program, \
+             derivation records 0 to 1,024.",
         ],
         3 => [
             "a field or code outside its range, or lengths over 8,192 (at the array record that passes it)",
-            "A code or a number of this record is none that it may hold, or the lengths of all inputs (or of all outputs) add up to more than 8,192.",
+            "A code or a number of this record is none that it may hold, or the lengths of all inputs (or of all \
+             outputs) add up to more than 8,192.",
         ],
         4 => [
             "blocks don't match",
@@ -21,7 +23,8 @@ pub fn reading(number: u32) -> Option<[&'static str; 2]> {
         ],
         5 => [
             "too deep, too many passes, or a counter not around",
-            "Blocks nest at most 8 deep and loops at most 4; passes of a loop times those around it are at most 65,536; an index names only counters of loops around it.",
+            "Blocks nest at most 8 deep and loops at most 4; passes of a loop times those around it are at most 65,536; \
+             an index names only counters of loops around it.",
         ],
         _ => return None,
     })
@@ -31,8 +34,10 @@ pub fn reading(number: u32) -> Option<[&'static str; 2]> {
 pub fn checking(number: u32) -> Option<[&'static str; 2]> {
     Some(match number {
         10 => [
-            "rule doesn't fit the next statements, or hold rows missing, out of order, stray or naming a counter not around",
-            "Compare the rule with the two statements below; at a for, compare its hold rows: a position for each array, then a row for each buffer, in order.",
+            "rule doesn't fit the next statements, or hold rows missing, out of order, stray or naming a counter not \
+             around",
+            "Compare the rule with the two statements below; at a for, compare its hold rows: a position for each array, \
+             then a row for each buffer, in order.",
         ],
         11 => [
             "position not below count",
@@ -48,11 +53,13 @@ pub fn checking(number: u32) -> Option<[&'static str; 2]> {
         ],
         14 => [
             "hold rows not true at entry",
-            "With the counter at first, a position row differs from where the stream stands, or a buffer row names what the buffer doesn't hold.",
+            "With the counter at first, a position row differs from where the stream stands, or a buffer row names what \
+             the buffer doesn't hold.",
         ],
         15 => [
             "hold rows not kept",
-            "After one pass the rows, with the counter one step on, are no longer true: the body reads, writes or moves too much or too little.",
+            "After one pass the rows, with the counter one step on, are no longer true: the body reads, writes or moves \
+             too much or too little.",
         ],
         16 => [
             "positions of both branches not equal",
