@@ -7,7 +7,6 @@ use native.Mathlib.Omega.{arith}
 use lib.Dec.{eqb}
 use lib.ListN.{length, getD, drop}
 use borrow.Author.Tests.{eqb-true}
-use Rattle.numbers.specs.Result.{ok}
 use Rattle.numbers.proofs.Results.{On, on-ok, on-map, on-at}
 use Rattle.numbers.proofs.Tests.{and-left}
 use Rattle.kernel.specs.File.{Rec, nothing, ifs, elses, ends, Statement, if, else, end, statement}
@@ -58,6 +57,10 @@ module _ (scope : Scope) (rs : List Rec) (i : ℕ) where
       subst (λ n. Nested scope next (drop n rs)) k (subst (λ os. Nested scope os (drop (suc i) rs)) (on-at o (sym (ap (λ s. after s os) e) ∙ t .moves)) (t .more))
 
 -- its code, where the rule fits
+pub code-of : (m n : ℕ) (a s : Rec) → Check.codes m n a s ≡ true → a .code ≡ m
+unfolding Check.codes
+code-of m n a s h = eqb-true (a .code) m (and-left _ (eqb (s .code) n) h)
+
 module _ (file : List ℕ) (c : Counts) (os : List Stand.Opened) (w : Walked) where
   abbrev a : Rec
   a = array-there file c w
@@ -65,21 +68,17 @@ module _ (file : List ℕ) (c : Counts) (os : List Stand.Opened) (w : Walked) wh
   abbrev s : Rec
   s = stream-there file c w
 
-  code-of : (m n : ℕ) → Check.codes m n a s ≡ true → a .code ≡ m
-  unfolding Check.codes
-  code-of m n h = eqb-true (a .code) m (and-left _ (eqb (s .code) n) h)
-
   if-code : Fitting file c os w 8 ≡ true → a .code ≡ ifs
   unfolding Check.fits Stand.rule
-  if-code h = code-of 9 9 (and-left _ (Check.same-p a s) h)
+  if-code h = code-of 9 9 a s (and-left _ (Check.same-p a s) h)
 
   else-code : Fitting file c os w 9 ≡ true → a .code ≡ elses
   unfolding Check.fits Stand.rule
-  else-code h = code-of 10 10 h
+  else-code h = code-of 10 10 a s h
 
   end-code : Fitting file c os w 10 ≡ true → a .code ≡ ends
   unfolding Check.fits Stand.rule
-  end-code h = code-of 11 11 h
+  end-code h = code-of 11 11 a s h
 
   module _ (l : Ledger) (r : Walked) (e : r ≡ past w l) where
     behind : (st : Statement) → 1 ≤ a .code → statement a ≡ st → (opens next : List Open) → On (λ os′. os′ ≡ next) (after st opens) → ReadsOn file c opens w → ReadsOn file c next r

@@ -2,13 +2,13 @@
 use Prim.Native.Nat.{ℕ, _+_, _≤_}
 use mathlib.Core.Path.{_≡_, refl, sym, ap, _∙_}
 use mathlib.Core.Bool.{Bool, true, false, _&&_}
-use mathlib.Core.Logic.{_⊎_, inl, inr}
+use mathlib.Core.Logic.{inl, inr}
 use mathlib.Core.List.{List, _∷_}
 use native.Mathlib.Omega.{arith}
 use lib.Dec.{eqb}
 use lib.ListN.{length}
 use borrow.Author.Tests.{eqb-true, eq-eqb}
-use Rattle.numbers.specs.Result.{Result, ok, stop, _>>=_, need, because}
+use Rattle.numbers.specs.Result.{Result, ok, stop, _>>=_, need}
 use Rattle.numbers.proofs.Tests.{and-left, and-right}
 use Rattle.forms.specs.Form as F
 use Rattle.kernel.specs.File.{Kernel}

@@ -1,7 +1,5 @@
 -- `opening::closes` meets its contract: the code of the rule, then whether it fits.
 use mathlib.Core.Path.{sym, _∙_}
-use mathlib.Core.Logic.{_⊎_, inl, inr}
-use native.Mathlib.Omega.{arith}
 use borrow.Author.Tests.{eq-eqb, ne-eqb}
 use borrow.Author.Needs.{needs}
 use Rattle.opening.proofs.Taking.{no-for, and-fails, and-holds}

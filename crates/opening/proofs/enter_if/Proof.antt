@@ -29,7 +29,7 @@ returns c =
     let k = s .args .c in
     let w = s .args .w in
     let e = c .refused .ensures in (
-      (λ os. stopped file k os w _ _ 10 (omega arith) e (unfit file k os w 8 (s .pre .3) (refused (c .before .before .fits-there .ensures (stand (k .a) (k .b) os w)) (c .before .if1 .taken)))),
+      (λ os. stopped file k os w _ _ 10 (omega arith) e (unfit file k os w 8 (s .pre .3) (refused {t = Fitting file k os w 8} (c .before .before .fits-there .ensures (stand (k .a) (k .b) os w)) (c .before .if1 .taken)))),
       refuses w _ 10 (omega arith) e,
     )
 
@@ -45,7 +45,7 @@ returns-2 c =
     let k = s .args .c in
     let w = s .args .w in
     let e = c .took .ensures in
-    let f : (os : List Opened) → Fitting file k os w 8 ≡ true = λ os. passed (c .before .before .before .fits-there .ensures (stand (k .a) (k .b) os w)) (c .before .before .if1 .left) in (
+    let f : (os : List Opened) → Fitting file k os w 8 ≡ true = λ os. passed {t = Fitting file k os w 8} (c .before .before .before .fits-there .ensures (stand (k .a) (k .b) os w)) (c .before .before .if1 .left) in (
       (λ os. went-on file k os w _ _ (w .ledger) _ e refl (fit file k os w 8 (s .pre .3) (f os) ∙ ap (Check.at (stand (k .a) (k .b) os w)) (if-opens file k os w))),
       (λ z. (onward k w _ (w .ledger) (s .pre .1) (s .pre .2) (bounded-more (w .rule) (w .ledger) (s .pre .1 .bounded)) e, ap (λ (r : Walked). r .ledger) e, if-reads file k [] w (w .ledger) _ e (f []))),
     )

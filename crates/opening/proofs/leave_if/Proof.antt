@@ -1,5 +1,5 @@
 -- `opening::leave_if` meets its contract: the rule is an end, the positions are those of the first branch, and the ledgers are merged.
-use mathlib.Core.Path.{_≡_, refl, sym, ap, _∙_}
+use mathlib.Core.Path.{_≡_, refl, ap, _∙_}
 use mathlib.Core.Bool.{true}
 use mathlib.Core.Logic.{inr}
 use mathlib.Core.List.{List, [], _∷_}
@@ -33,7 +33,7 @@ returns c =
     let e = c .refused .ensures in (
       (λ os.
           let o = in-else first ∷ os in
-          stopped file k o w _ _ 10 (omega arith) e (not-end file k o w (s .pre .3) (else-stops file k os w first) (refused (c .before .before .closes .ensures (stand (k .a) (k .b) o w)) (c .before .if1 .taken)))),
+          stopped file k o w _ _ 10 (omega arith) e (not-end file k o w (s .pre .3) (else-stops file k os w first) (refused {t = Closed file k o w 10} (c .before .before .closes .ensures (stand (k .a) (k .b) o w)) (c .before .if1 .taken)))),
       refuses w _ 10 (omega arith) e,
     )
 
@@ -56,7 +56,7 @@ returns-2 c =
       (λ os.
           let o = in-else first ∷ os in
           let d = stand (k .a) (k .b) o w in
-          stopped file k o w _ _ 16 (omega arith) e (closes file k o w 10 (passed (c .before .before .before .before .closes .ensures d) (c .before .before .before .if1 .left)) ∙ ap (Check.at d) (else-ends file k os w first ∙ need-fails 16 _ _ (refused (c .before .before .same-positions .ensures (k .b)) (c .before .if2 .taken))))),
+          stopped file k o w _ _ 16 (omega arith) e (closes file k o w 10 (passed {t = Closed file k o w 10} (c .before .before .before .before .closes .ensures d) (c .before .before .before .if1 .left)) ∙ ap (Check.at d) (else-ends file k os w first ∙ need-fails 16 _ _ (refused (c .before .before .same-positions .ensures (k .b)) (c .before .if2 .taken))))),
       refuses w _ 16 (omega arith) e,
     )
 
@@ -79,7 +79,7 @@ returns-3 c =
     let first = ledger (k .a) (k .b) (s .args .first) in
     let e = c .took .ensures in
     let m = c .before .merged in
-    let f : (os : List Opened) → Closed file k os w 10 ≡ true = λ os. passed (c .before .before .before .before .before .closes .ensures (stand (k .a) (k .b) os w)) (c .before .before .before .before .if1 .left) in (
+    let f : (os : List Opened) → Closed file k os w 10 ≡ true = λ os. passed {t = Closed file k os w 10} (c .before .before .before .before .before .closes .ensures (stand (k .a) (k .b) os w)) (c .before .before .before .before .if1 .left) in (
       (λ os.
           let o = in-else first ∷ os in
           went-on file k o w _ _ (m .result) _ e (m .ensures .0 (k .a)) (closes file k o w 10 (f o) ∙ ap (Check.at (stand (k .a) (k .b) o w)) (else-ends file k os w first ∙ need-holds 16 _ _ (passed (c .before .before .before .same-positions .ensures (k .b)) (c .before .before .if2 .left))))),

@@ -32,7 +32,7 @@ returns c =
     let e = c .refused .ensures in (
       (λ os.
           let o = in-if start ∷ os in
-          stopped file k o w _ _ 10 (omega arith) e (not-else file k o w (s .pre .3) (if-stops file k os w start) (refused (c .before .before .closes .ensures (stand (k .a) (k .b) o w)) (c .before .if1 .taken)))),
+          stopped file k o w _ _ 10 (omega arith) e (not-else file k o w (s .pre .3) (if-stops file k os w start) (refused {t = Closed file k o w 9} (c .before .before .closes .ensures (stand (k .a) (k .b) o w)) (c .before .if1 .taken)))),
       refuses w _ 10 (omega arith) e,
     )
 
@@ -50,7 +50,7 @@ returns-2 c =
     let l = s .args .start in
     let start = ledger (k .a) (k .b) l in
     let e = c .took .ensures in
-    let f : (os : List Opened) → Closed file k os w 9 ≡ true = λ os. passed (c .before .before .closes .ensures (stand (k .a) (k .b) os w)) (c .before .if1 .left) in (
+    let f : (os : List Opened) → Closed file k os w 9 ≡ true = λ os. passed {t = Closed file k os w 9} (c .before .before .closes .ensures (stand (k .a) (k .b) os w)) (c .before .if1 .left) in (
       (λ os.
           let o = in-if start ∷ os in
           went-on file k o w _ _ l _ e refl (closes file k o w 9 (f o) ∙ ap (Check.at (stand (k .a) (k .b) o w)) (if-turns file k os w start))),
