@@ -30,10 +30,10 @@ use Rattle.opening.proofs.Taking.{past, Fitting}
 -- ---- where the derivation stands
 
 -- no number there is large
-pub near : (file : List ℕ) (c : Counts) (w : Walked) → ReadAs file c → Stood c w → (w .rule ≤ 4096) × (w .array ≤ 4096) × (w .stream ≤ 4096) × (1 ≤ 1)
+pub near : (file : List ℕ) (c : Counts) (w : Walked) → ReadAs file c → Stood c w → (w .rule ≤ 4096) × (w .array ≤ 4096) × (w .stream ≤ 4096)
 near file c w e s =
     let f = few file c e in
-    (omega (arith, f .rules, s .rules), omega (arith, f .rules, s .rules, s .arrays), omega (arith, f .rules, s .rules, s .streams), omega arith)
+    (omega (arith, f .rules, s .rules), omega (arith, f .rules, s .rules, s .arrays), omega (arith, f .rules, s .rules, s .streams))
 
 pub bounded-wider : {m n : ℕ} {l : Ledger} → m ≤ n → Bounded m l → Bounded n l
 bounded-wider k h = record { at-position = λ q. within-wider (h .at-position q) (omega (arith, k)) (omega arith) }

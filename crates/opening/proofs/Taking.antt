@@ -1,15 +1,15 @@
 -- What the rule at a place comes to: refused with 10 where it does not fit or does not close the innermost block, else its effect.
 use Prim.Native.Nat.{ℕ, _+_, _≤_}
 use mathlib.Core.Path.{_≡_, refl, sym, ap, _∙_}
-use mathlib.Core.Bool.{Bool, true, false, _&&_}
-use mathlib.Core.Logic.{inl, inr}
+use mathlib.Core.Bool.{Bool, true, false, _&&_, _||_}
+use mathlib.Core.Logic.{_⊎_, inl, inr}
 use mathlib.Core.List.{List, _∷_}
 use native.Mathlib.Omega.{arith}
 use lib.Dec.{eqb}
 use lib.ListN.{length}
 use borrow.Author.Tests.{eqb-true, eq-eqb}
 use Rattle.numbers.specs.Result.{Result, ok, stop, _>>=_, need}
-use Rattle.numbers.proofs.Tests.{and-left, and-right}
+use Rattle.numbers.proofs.Tests.{and-left, and-right, or-cases}
 use Rattle.forms.specs.Form as F
 use Rattle.kernel.specs.File.{Kernel}
 use Rattle.kernel.specs.Ledger as L
@@ -39,7 +39,14 @@ past w l = record { number = 0; rule = w .rule + 1; array = w .array + 1; stream
 pub refuses : {A : Type 0} (w r : Walked) (number : ℕ) → 1 ≤ number → r ≡ refusal w number → r .number ≡ 0 → A
 refuses w r number z e h = absurd (omega (arith, z, h, ap (λ (r : Walked). r .number) e))
 
--- an else or an end is no for
+-- an else or an end, by its code; it is no for
+pub closing : (code : ℕ) → eqb code 9 || eqb code 10 ≡ true → Closing code
+closing code h = by (or-cases (eqb code 9) (eqb code 10) h)
+  where
+    by : (eqb code 9 ≡ true) ⊎ (eqb code 10 ≡ true) → Closing code
+    by (inl e) = inl (eqb-true code 9 e)
+    by (inr e) = inr (eqb-true code 10 e)
+
 pub no-for : (code : ℕ) → Closing code → code ≡ 7 → ⊥
 no-for code (inl e) h = omega arith
 no-for code (inr e) h = omega arith

@@ -36,7 +36,8 @@ returns c =
 took-requires : tie.Need-took-requires
 took-requires c κs =
     let s = c .before .before .before .before in
-    near (s .args .file .now) (s .args .c) (s .args .w) (s .pre .0) (s .pre .1)
+    let n = near (s .args .file .now) (s .args .c) (s .args .w) (s .pre .0) (s .pre .1) in
+    (n .0, n .1, n .2, omega arith)
 
 returns-2 : tie.Need-returns-2
 returns-2 c =

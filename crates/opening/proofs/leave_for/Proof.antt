@@ -1,7 +1,6 @@
 -- `opening::leave_for` meets its contract: the rule is an end, the rows hold a step on, and behind the loop they hold at its limit.
 use mathlib.Core.Path.{_≡_, refl, ap, _∙_}
 use mathlib.Core.Bool.{true}
-use mathlib.Core.Logic.{inr}
 use mathlib.Core.List.{List, [], _∷_}
 use native.Mathlib.Omega.{arith}
 use borrow.Author.Needs.{needs}
@@ -16,7 +15,7 @@ use Rattle.ledger.specs.View.{ledger}
 use Rattle.rules.specs.View.{stand}
 use Rattle.rules.proofs.Effects.{need-fails, need-holds}
 use Rattle.places.proofs.Read.{few}
-use Rattle.opening.proofs.Taking.{Closed, refuses, stopped, went-on, closed-fits, closes, not-end, for-stops, for-ends}
+use Rattle.opening.proofs.Taking.{Closed, closing, refuses, stopped, went-on, closed-fits, closes, not-end, for-stops, for-ends}
 use Rattle.opening.proofs.Going.{near, bounded-wider, onward, end-for-reads}
 use Rattle.opening.proofs.Limit.{step-back-small, step-as, product-fits, sum-fits, limit-as, limit-small}
 use Rattle.opening.proofs.leave_for.Statement.{statement}
@@ -47,7 +46,7 @@ module _ (c : tie.After-put-at) where
   kept = c .put-at .ensures .0 ∙ ap (λ z. L.each (F.put-at (start .args .level) z) (view (start .args .rows))) (limit-as (start .args .l) (start .pre .5))
 
 closes-requires : tie.Need-closes-requires
-closes-requires c κs = (c .before .pre .0, c .before .pre .2, inr refl)
+closes-requires c κs = (c .before .pre .0, c .before .pre .2, closing _ refl)
 
 refused-requires : tie.Need-refused-requires
 refused-requires c κs = search needs
@@ -120,7 +119,8 @@ put-at-requires c κs =
 took-requires : tie.Need-took-requires
 took-requires c κs =
     let s = c .before .before .before .before .before .before .before .before .before .before .before .before .before in
-    near (s .args .file .now) (s .args .c) (s .args .w) (s .pre .0) (s .pre .1)
+    let n = near (s .args .file .now) (s .args .c) (s .args .w) (s .pre .0) (s .pre .1) in
+    (n .0, n .1, n .2, omega arith)
 
 returns-3 : tie.Need-returns-3
 returns-3 c =

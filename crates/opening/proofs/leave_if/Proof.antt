@@ -1,7 +1,6 @@
 -- `opening::leave_if` meets its contract: the rule is an end, the positions are those of the first branch, and the ledgers are merged.
 use mathlib.Core.Path.{_≡_, refl, ap, _∙_}
 use mathlib.Core.Bool.{true}
-use mathlib.Core.Logic.{inr}
 use mathlib.Core.List.{List, [], _∷_}
 use native.Mathlib.Omega.{arith}
 use borrow.Author.Needs.{needs}
@@ -12,13 +11,13 @@ use Rattle.ledger.specs.View.{ledger}
 use Rattle.rules.specs.View.{stand}
 use Rattle.rules.proofs.Effects.{need-fails, need-holds, bounded-more}
 use Rattle.places.proofs.Read.{few}
-use Rattle.opening.proofs.Taking.{Closed, refuses, stopped, went-on, closed-fits, closes, not-end, else-stops, else-ends}
+use Rattle.opening.proofs.Taking.{Closed, closing, refuses, stopped, went-on, closed-fits, closes, not-end, else-stops, else-ends}
 use Rattle.opening.proofs.Going.{near, onward, end-if-reads}
 use Rattle.opening.proofs.leave_if.Statement.{statement}
 use Rattle.opening.proofs.leave_if.Tie as tie
 
 closes-requires : tie.Need-closes-requires
-closes-requires c κs = (c .before .pre .0, c .before .pre .2, inr refl)
+closes-requires c κs = (c .before .pre .0, c .before .pre .2, closing _ refl)
 
 refused-requires : tie.Need-refused-requires
 refused-requires c κs = search needs
@@ -68,7 +67,8 @@ merged-requires c κs =
 took-requires : tie.Need-took-requires
 took-requires c κs =
     let s = c .before .before .before .before .before .before in
-    near (s .args .file .now) (s .args .c) (s .args .w) (s .pre .0) (s .pre .1)
+    let n = near (s .args .file .now) (s .args .c) (s .args .w) (s .pre .0) (s .pre .1) in
+    (n .0, n .1, n .2, omega arith)
 
 returns-3 : tie.Need-returns-3
 returns-3 c =

@@ -1,7 +1,6 @@
 -- `opening::turn` meets its contract: the rule is an else, and the ledger is the one at the if.
 use mathlib.Core.Path.{_≡_, refl, ap, _∙_}
 use mathlib.Core.Bool.{true}
-use mathlib.Core.Logic.{inl}
 use mathlib.Core.List.{List, [], _∷_}
 use native.Mathlib.Omega.{arith}
 use borrow.Author.Needs.{needs}
@@ -11,13 +10,13 @@ use Rattle.kernel.specs.Check as Check
 use Rattle.ledger.specs.View.{ledger}
 use Rattle.rules.specs.View.{stand}
 use Rattle.rules.proofs.Effects.{bounded-more}
-use Rattle.opening.proofs.Taking.{Closed, refuses, stopped, went-on, closed-fits, closes, not-else, if-stops, if-turns}
+use Rattle.opening.proofs.Taking.{Closed, closing, refuses, stopped, went-on, closed-fits, closes, not-else, if-stops, if-turns}
 use Rattle.opening.proofs.Going.{near, onward, else-reads}
 use Rattle.opening.proofs.turn.Statement.{statement}
 use Rattle.opening.proofs.turn.Tie as tie
 
 closes-requires : tie.Need-closes-requires
-closes-requires c κs = (c .before .pre .0, c .before .pre .2, inl refl)
+closes-requires c κs = (c .before .pre .0, c .before .pre .2, closing _ refl)
 
 refused-requires : tie.Need-refused-requires
 refused-requires c κs = search needs
@@ -39,7 +38,8 @@ returns c =
 took-requires : tie.Need-took-requires
 took-requires c κs =
     let s = c .before .before .before in
-    near (s .args .file .now) (s .args .c) (s .args .w) (s .pre .0) (s .pre .1)
+    let n = near (s .args .file .now) (s .args .c) (s .args .w) (s .pre .0) (s .pre .1) in
+    (n .0, n .1, n .2, omega arith)
 
 returns-2 : tie.Need-returns-2
 returns-2 c =
