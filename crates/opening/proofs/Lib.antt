@@ -1,0 +1,4 @@
+pub mod Taking
+pub mod Going
+pub mod Limit
+pub mod Entering
