@@ -3,7 +3,7 @@
 use mathlib.Core.Path.{_≡_, refl, sym, ap, _∙_}
 use mathlib.Core.Bool.{Bool, true, false, false≢true}
 use mathlib.Core.List.{List, [], _∷_}
-use Prim.Native.Nat.{ℕ, zero, suc, _+_, _-_, _<_, _≤_}
+use Prim.Native.Nat.{ℕ, zero, suc, _+_, _-_, _*_, _<_, _≤_}
 use native.Mathlib.Omega.{arith}
 use lib.Dec.{leb}
 use lib.ListN.{length}
@@ -11,41 +11,52 @@ use borrow.Author.Tests.{le-leb, lt-leb}
 use Rattle.numbers.specs.Result.{Result, ok, stop, _>>=_, because}
 use Rattle.numbers.proofs.Results.{On, on-ok, on-stop, on-then, on-because, on-any, on-at}
 use Rattle.kernel.specs.File.{Rec, Kernel}
+use Rattle.kernel.specs.Ledger.{Ledger}
 use Rattle.kernel.specs.Stand.{Opened, in-for, in-if, in-else, Stand, beginning, next-rule, next-array, next-stream, went, row-count, Rule, same-rule, read-rule, fill-rule, use-rule, move-rule, write-rule, for-rule, if-rule, else-rule, end-rule, no-rule, rule}
 use Rattle.kernel.specs.Check.{at-else, at-end, effect, follow, Break, break, at, take-rule, finish, walk, check-kernel}
 
--- a rule that is taken goes forth
-taken-forth : (K : Kernel) (c : Stand) → On (λ d. c .rule < d .rule) (take-rule K c)
-unfolding take-rule at follow effect at-else at-end went
+-- a rule that is taken goes forth: past itself and at most its hold rows, and past at most one statement of each program
+pub record Forth (K : Kernel) (c d : Stand) : Type 0 where
+  pub more : c .rule < d .rule
+  pub rules : d .rule ≤ c .rule + suc (row-count K)
+  pub arrays : d .array ≤ c .array + 1
+  pub streams : d .stream ≤ c .stream + 1
+
+goes : (K : Kernel) (c : Stand) (r a s : ℕ) (os : List Opened) (L : Ledger) → 1 ≤ r → r ≤ suc (row-count K) → a ≤ 1 → s ≤ 1 → On {E = ℕ} (Forth K c) (ok (went r a s os L c))
+unfolding went
+goes K c r a s os L h k i j = on-ok (record { more = omega arith; rules = omega arith; arrays = omega arith; streams = omega arith })
+
+taken-forth : (K : Kernel) (c : Stand) → On (Forth K c) (take-rule K c)
+unfolding take-rule at follow effect at-else at-end
 taken-forth K c = on-because _ (on-then _ (on-any {P = λ _. Unit {0}} (λ t. tt)) λ t u. by (rule (next-rule K c .code)) (next-array K c) (next-stream K c))
   where
-    forth : (k n : ℕ) → 1 ≤ n → k < k + n
-    forth k n h = omega arith
+    one-on : (a : ℕ) → a ≤ 1 → (os : List Opened) (L : Ledger) → On {E = ℕ} (Forth K c) (ok (went 1 a 1 os L c))
+    one-on a h os L = goes K c 1 a 1 os L (omega arith) (omega arith) h (omega arith)
 
-    at-block-end : (os : List Opened) → On (λ d. c .rule < d .rule) (at-end os c)
-    at-block-end [] = on-stop
-    at-block-end (in-for l rows ∷ os) = on-then _ (on-any {P = λ _. Unit {0}} (λ t. tt)) λ t u. on-ok (forth (c .rule) 1 (omega arith))
-    at-block-end (in-if L ∷ os) = on-stop
-    at-block-end (in-else first ∷ os) = on-then _ (on-any {P = λ _. Unit {0}} (λ t. tt)) λ t u. on-ok (forth (c .rule) 1 (omega arith))
-
-    at-block-else : (os : List Opened) → On (λ d. c .rule < d .rule) (at-else os c)
-    at-block-else [] = on-stop
-    at-block-else (in-for l rows ∷ os) = on-stop
-    at-block-else (in-if L ∷ os) = on-ok (forth (c .rule) 1 (omega arith))
-    at-block-else (in-else first ∷ os) = on-stop
-
-    one : {A : Type 0} (m : Result ℕ A) (f : A → Result ℕ Stand) → ((a : A) → On (λ d. c .rule < d .rule) (f a)) → On (λ d. c .rule < d .rule) (m >>= f)
+    one : {A : Type 0} (m : Result ℕ A) (f : A → Result ℕ Stand) → ((a : A) → On (Forth K c) (f a)) → On (Forth K c) (m >>= f)
     one m f h = on-then f (on-any {P = λ _. Unit {0}} (λ t. tt)) λ a u. h a
 
-    by : (r : Rule) (a s : Rec) → On (λ d. c .rule < d .rule) (effect K c r a s)
-    by same-rule a s = on-ok (forth (c .rule) 1 (omega arith))
-    by read-rule a s = one _ _ λ t. one _ _ λ t. on-ok (forth (c .rule) 1 (omega arith))
-    by fill-rule a s = one _ _ λ t. on-ok (forth (c .rule) 1 (omega arith))
-    by use-rule a s = one _ _ λ t. on-ok (forth (c .rule) 1 (omega arith))
-    by move-rule a s = one _ _ λ t. on-ok (forth (c .rule) 1 (omega arith))
-    by write-rule a s = one _ _ λ t. one _ _ λ t. on-ok (forth (c .rule) 1 (omega arith))
-    by for-rule a s = one _ _ λ t. on-ok (forth (c .rule) (suc (row-count K)) (omega arith))
-    by if-rule a s = on-ok (forth (c .rule) 1 (omega arith))
+    at-block-end : (os : List Opened) → On (Forth K c) (at-end os c)
+    at-block-end [] = on-stop
+    at-block-end (in-for l rows ∷ os) = one _ _ λ t. one-on 1 (omega arith) _ _
+    at-block-end (in-if L ∷ os) = on-stop
+    at-block-end (in-else first ∷ os) = one _ _ λ t. one-on 1 (omega arith) _ _
+
+    at-block-else : (os : List Opened) → On (Forth K c) (at-else os c)
+    at-block-else [] = on-stop
+    at-block-else (in-for l rows ∷ os) = on-stop
+    at-block-else (in-if L ∷ os) = one-on 1 (omega arith) _ _
+    at-block-else (in-else first ∷ os) = on-stop
+
+    by : (r : Rule) (a s : Rec) → On (Forth K c) (effect K c r a s)
+    by same-rule a s = one-on 1 (omega arith) _ _
+    by read-rule a s = one _ _ λ t. one _ _ λ t. one-on 1 (omega arith) _ _
+    by fill-rule a s = one _ _ λ t. one-on 0 (omega arith) _ _
+    by use-rule a s = one _ _ λ t. one-on 1 (omega arith) _ _
+    by move-rule a s = one _ _ λ t. one-on 0 (omega arith) _ _
+    by write-rule a s = one _ _ λ t. one _ _ λ t. one-on 1 (omega arith) _ _
+    by for-rule a s = one _ _ λ t. goes K c (suc (row-count K)) 1 1 _ _ (omega arith) (omega arith) (omega arith) (omega arith)
+    by if-rule a s = one-on 1 (omega arith) _ _
     by else-rule a s = at-block-else (c .opened)
     by end-rule a s = at-block-end (c .opened)
     by no-rule a s = on-stop
@@ -71,8 +82,8 @@ same-walk K (suc n) (suc m) c h k = by (leb (length (K .derivation)) (c .rule)) 
     by true r = refl
     by false r = onward (take-rule K c) (taken-forth K c) r
       where
-        onward : (x : Result Break Stand) → On (λ d. c .rule < d .rule) x → ((d : Stand) → c .rule < d .rule → walk K n d ≡ walk K m d) → (x >>= walk K n) ≡ (x >>= walk K m)
-        onward (ok d) l r = unfold _>>=_ in r d (l .on)
+        onward : (x : Result Break Stand) → On (Forth K c) x → ((d : Stand) → c .rule < d .rule → walk K n d ≡ walk K m d) → (x >>= walk K n) ≡ (x >>= walk K m)
+        onward (ok d) l r = unfold _>>=_ in r d (l .on .more)
         onward (stop b) l r = unfold _>>=_ in refl
 
 -- ---- the walk from a stand on
@@ -120,7 +131,43 @@ module _ (K : Kernel) (c : Stand) where
     unfolding take-rule at because _>>=_ walk-on
     walk-goes d e =
         walk-rule ∙ ap (λ r. because (λ number. break number (c .rule) (c .array) (c .stream)) r >>= walk K (left - 1)) e
-        ∙ same-walk K (left - 1) (length (K .derivation) - d .rule) d (omega (arith, on-at (taken-forth K c) taken)) (omega arith)
+        ∙ same-walk K (left - 1) (length (K .derivation) - d .rule) d (omega (arith, on-at (taken-forth K c) taken .more)) (omega arith)
       where
         taken : take-rule K c ≡ ok d
         taken = ap (because (λ number. break number (c .rule) (c .array) (c .stream))) e
+
+    -- it is taken, then the walk goes on
+    pub walk-take : walk-on K c ≡ (take-rule K c >>= walk-on K)
+    unfolding take-rule at because _>>=_
+    walk-take = by followed refl
+      where
+        by : (x : Result ℕ Stand) → followed ≡ x → walk-on K c ≡ (take-rule K c >>= walk-on K)
+        by (ok d) e = walk-goes d e ∙ sym (ap (λ r. because (λ number. break number (c .rule) (c .array) (c .stream)) r >>= walk-on K) e)
+        by (stop number) e = walk-stops number e ∙ sym (ap (λ r. because (λ number. break number (c .rule) (c .array) (c .stream)) r >>= walk-on K) e)
+
+-- ---- where a refusal may stand
+
+-- no place of it is past m
+unfoldable pub Low : (m : ℕ) → Result Break (Unit {0}) → Type 0
+Low m (ok t) = Unit
+Low m (stop (break number rule array stream)) = (rule ≤ m) × (array ≤ m) × (stream ≤ m)
+
+module _ (K : Kernel) (rows : row-count K ≤ 24) (m : ℕ) where
+  low-here : (c : Stand) → c .rule ≤ m → c .array ≤ m → c .stream ≤ m → (r : Result ℕ (Unit {0})) → Low m (at c r)
+  unfolding Low at because
+  low-here c h a s (ok t) = tt
+  low-here c h a s (stop number) = (h, a, s)
+
+  -- n rules more: each takes at most 25 records of the derivation
+  pub walk-low : (n : ℕ) (c : Stand) → c .rule + 25 * n ≤ m → c .array + n ≤ m → c .stream + n ≤ m → Low m (walk K n c)
+  unfolding walk finish
+  walk-low zero c h a s = low-here c (omega arith) (omega arith) (omega arith) _
+  walk-low (suc n) c h a s = by (leb (length (K .derivation)) (c .rule)) (λ d f. walk-low n d (omega (arith, f .rules)) (omega (arith, f .arrays)) (omega (arith, f .streams)))
+    where
+      onward : (y : Result ℕ Stand) → On (Forth K c) (at c y) → ((d : Stand) → Forth K c d → Low m (walk K n d)) → Low m (at c y >>= walk K n)
+      onward (ok d) l r = unfold at because _>>=_ in r d (l .on)
+      onward (stop number) l r = unfold at because _>>=_ Low in (omega arith, omega arith, omega arith)
+
+      by : (t : Bool) → ((d : Stand) → Forth K c d → Low m (walk K n d)) → Low m (elim t as (λ t. Result Break (Unit {0})) [ true ↦ finish K c | false ↦ take-rule K c >>= walk K n ])
+      by true r = low-here c (omega arith) (omega arith) (omega arith) _
+      by false r = unfold take-rule in onward (follow K c (rule (next-rule K c .code)) (next-array K c) (next-stream K c)) (taken-forth K c) r
