@@ -1,4 +1,4 @@
--- Demand 3 of the calls: each call of a job does its work, for the one before leaves what it wants; so the job comes to the two runs that agree.
+-- Demand 3 of the calls, and all three: each call of a job does its work, for the one before leaves what it wants; so the job comes to the two runs that agree.
 use Prim.Native.Nat.{ℕ, _*_}
 use mathlib.Core.Path.{_≡_, sym, ap, _∙_}
 use mathlib.Core.List.{List}
@@ -12,9 +12,12 @@ use Rattle.kernel.specs.Memory.{Ran, total, laid-out, put-back, array-ran, stre
 use Rattle.agreement.specs.Agreement.{Agree}
 use Rattle.agreement.proofs.Agreed.{agreement}
 use Rattle.agreement.proofs.Ended.{lengths-kept}
-use Rattle.demands.specs.Demands.{Job, Called, Sized, Agreed, Demand3}
+use Rattle.demands.specs.Demands.{Job, Called, Sized, Agreed, Demand3, Demands}
+use Rattle.checking.proofs.One.{accepts}
 use Rattle.demands.proofs.Wrapped.{words-below, laid-read, laid-length, put-back-read}
 use Rattle.demands.proofs.Answered.{works, tells, run-told, move-finished, area-left}
+use Rattle.demands.proofs.Kept.{demand-1}
+use Rattle.demands.proofs.Exactly.{demand-2}
 
 module _ (j : Job) (K : Kernel) where
   -- what the job comes to
@@ -91,7 +94,11 @@ module _ (j : Job) (K : Kernel) where
       outputs = back-left ∙ ap bytes (agree .outputs) ∙ sym outputs-left;
     }
 
-pub demand-3 : Demand3
-demand-3 j K reads accepts called sized =
-    let agree = agreement (j .file) (j .memory) K reads accepts (sized .memory) in
+demand-3 : Demand3
+demand-3 j called accepted K reads sized =
+    let agree = agreement (j .file) (j .memory) K reads (accepts (j .file) (j .checked) (called .check) accepted) (sized .memory) in
     (tells (array j K), tells (stream j K), joined j K reads called sized agree)
+
+-- all three demands, of this code
+pub demands : Demands
+demands = record { first = demand-1; second = demand-2; third = demand-3 }

@@ -1,3 +1,5 @@
 pub mod Wrapped
 pub mod Answered
+pub mod Kept
+pub mod Exactly
 pub mod Joined

@@ -36,10 +36,10 @@ unfolding done done-of
 done-back (As.Refused number section place) = refl
 done-back As.Finished = refl
 
-one-run : (r : Result Fault Memory.Ran) (before : List ℕ) (a b : Ran) (x y : List ℕ) → Runs r before a x → Runs r before b y → (a ≡ b) × (x ≡ y)
+pub one-run : (r : Result Fault Memory.Ran) (before : List ℕ) (a b : Ran) (x y : List ℕ) → Runs r before a x → Runs r before b y → (a ≡ b) × (x ≡ y)
 one-run r before a b x y p q = (sym (ran-back a) ∙ ap ran-of (p .0 ∙ sym (q .0)) ∙ ran-back b, p .1 ∙ sym (q .1))
 
-one-move : (r : Result Fault (List ℕ)) (before : List ℕ) (a b : Done) (x y : List ℕ) → Moves r before a x → Moves r before b y → (a ≡ b) × (x ≡ y)
+pub one-move : (r : Result Fault (List ℕ)) (before : List ℕ) (a b : Done) (x y : List ℕ) → Moves r before a x → Moves r before b y → (a ≡ b) × (x ≡ y)
 one-move r before a b x y p q = (sym (done-back a) ∙ ap done-of (p .0 ∙ sym (q .0)) ∙ done-back b, p .1 ∙ sym (q .1))
 
 module _ (file given before : List ℕ) (x y : List ℕ) where
