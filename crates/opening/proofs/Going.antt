@@ -21,22 +21,11 @@ use Rattle.sections.specs.declared.Counts.{Counts}
 use Rattle.sections.specs.View.{kernel}
 use Rattle.ledger.specs.declared.Ledger.{Ledger}
 use Rattle.ledger.specs.View.{Bounded}
-use Rattle.ledger.proofs.Bounds.{within-wider}
 use Rattle.rules.specs.declared.Walked.{Walked}
-use Rattle.places.specs.View.{ReadAs, Stood, Onward, ReadsOn, array-there, stream-there}
-use Rattle.places.proofs.Read.{few}
+use Rattle.places.specs.View.{Stood, Onward, ReadsOn, array-there, stream-there}
 use Rattle.opening.proofs.Taking.{past, Fitting}
 
 -- ---- where the derivation stands
-
--- no number there is large
-pub near : (file : List ℕ) (c : Counts) (w : Walked) → ReadAs file c → Stood c w → (w .rule ≤ 4096) × (w .array ≤ 4096) × (w .stream ≤ 4096)
-near file c w e s =
-    let f = few file c e in
-    (omega (arith, f .rules, s .rules), omega (arith, f .rules, s .rules, s .arrays), omega (arith, f .rules, s .rules, s .streams))
-
-pub bounded-wider : {m n : ℕ} {l : Ledger} → m ≤ n → Bounded m l → Bounded n l
-bounded-wider k h = record { at-position = λ q. within-wider (h .at-position q) (omega (arith, k)) (omega arith) }
 
 pub onward : (c : Counts) (w r : Walked) (l : Ledger) → Stood c w → w .rule < c .d → Bounded (w .rule + 1) l → r ≡ past w l → Onward c w r
 onward c w r l s h b e =

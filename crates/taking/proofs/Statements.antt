@@ -19,10 +19,9 @@ use Rattle.kernel.proofs.Sayings.{says-copy, says-load, says-store, says-read, 
 use Rattle.sections.specs.declared.Counts.{Counts}
 use Rattle.sections.specs.declared.Rec as Code
 use Rattle.sections.specs.View.{rec}
-use Rattle.ledger.specs.View.{Bounded}
 use Rattle.rules.specs.declared.Walked.{Walked}
 use Rattle.rules.specs.View.{stand, ruled}
-use Rattle.places.specs.View.{ReadAs, Stood, array-there, stream-there, Plain}
+use Rattle.places.specs.View.{ReadAs, array-there, stream-there, Plain}
 use Rattle.places.proofs.Read as Read
 use Rattle.places.proofs.Read.{K, few, arrays-count, registers-are, buffers-are}
 
@@ -227,14 +226,6 @@ module _ (file : List ℕ) (c : Counts) (w : Walked) where
   as-there os v code x y z h = h ∙ λ i. at (stand (c .a) (c .b) os w) (effect (K file c) (stand (c .a) (c .b) os w) (sym x i) (y i) (z i))
 
 module _ (file : List ℕ) (c : Counts) (w : Walked) (e : ReadAs file c) where
-  pub few-places : Stood c w → (w .rule ≤ 4096) × (w .array ≤ 4096) × (w .stream ≤ 4096)
-  few-places h =
-      let f = few file c e .rules in
-      (omega (arith, h .rules), omega (arith, h .rules, h .arrays), omega (arith, h .rules, h .streams))
-
-  pub small-ledger : Stood c w → (m : ℕ) × Bounded m (w .ledger) × (m ≤ 4096)
-  small-ledger h = (w .rule, h .bounded, omega (arith, h .rules, few file c e .rules))
-
   -- the statements a and s there, as the code has them, where rule r fits
   module _ (r : Rule) (f : (d : Stand) → fits (K file c) d r (array-there file c w) (stream-there file c w) ≡ true) (a s : Code.Rec) (ea : rec a ≡ array-there file c w) (es : rec s ≡ stream-there file c w) where
     named-there : Named (K file c) r (rec a) (rec s)

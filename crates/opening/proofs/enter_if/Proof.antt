@@ -12,7 +12,8 @@ use Rattle.rules.specs.declared.Walked.{Walked}
 use Rattle.rules.specs.View.{stand}
 use Rattle.rules.proofs.Effects.{bounded-more}
 use Rattle.opening.proofs.Taking.{Fitting, refuses, unfit, fit, stopped, went-on, if-opens}
-use Rattle.opening.proofs.Going.{near, onward, if-reads}
+use Rattle.places.proofs.Standing.{near}
+use Rattle.opening.proofs.Going.{onward, if-reads}
 use Rattle.opening.proofs.enter_if.Statement.{statement}
 use Rattle.opening.proofs.enter_if.Tie as tie
 

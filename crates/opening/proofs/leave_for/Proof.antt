@@ -16,7 +16,8 @@ use Rattle.rules.specs.View.{stand}
 use Rattle.rules.proofs.Effects.{need-fails, need-holds}
 use Rattle.places.proofs.Read.{few}
 use Rattle.opening.proofs.Taking.{Closed, closing, refuses, stopped, went-on, closed-fits, closes, not-end, for-stops, for-ends}
-use Rattle.opening.proofs.Going.{near, bounded-wider, onward, end-for-reads}
+use Rattle.places.proofs.Standing.{near, bounded-wider}
+use Rattle.opening.proofs.Going.{onward, end-for-reads}
 use Rattle.opening.proofs.Limit.{step-back-small, step-as, product-fits, sum-fits, limit-as, limit-small}
 use Rattle.opening.proofs.leave_for.Statement.{statement}
 use Rattle.opening.proofs.leave_for.Tie as tie

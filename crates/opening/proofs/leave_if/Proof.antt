@@ -12,7 +12,8 @@ use Rattle.rules.specs.View.{stand}
 use Rattle.rules.proofs.Effects.{need-fails, need-holds, bounded-more}
 use Rattle.places.proofs.Read.{few}
 use Rattle.opening.proofs.Taking.{Closed, closing, refuses, stopped, went-on, closed-fits, closes, not-end, else-stops, else-ends}
-use Rattle.opening.proofs.Going.{near, onward, end-if-reads}
+use Rattle.places.proofs.Standing.{near}
+use Rattle.opening.proofs.Going.{onward, end-if-reads}
 use Rattle.opening.proofs.leave_if.Statement.{statement}
 use Rattle.opening.proofs.leave_if.Tie as tie
 

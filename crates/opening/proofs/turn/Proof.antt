@@ -11,7 +11,8 @@ use Rattle.ledger.specs.View.{ledger}
 use Rattle.rules.specs.View.{stand}
 use Rattle.rules.proofs.Effects.{bounded-more}
 use Rattle.opening.proofs.Taking.{Closed, closing, refuses, stopped, went-on, closed-fits, closes, not-else, if-stops, if-turns}
-use Rattle.opening.proofs.Going.{near, onward, else-reads}
+use Rattle.places.proofs.Standing.{near}
+use Rattle.opening.proofs.Going.{onward, else-reads}
 use Rattle.opening.proofs.turn.Statement.{statement}
 use Rattle.opening.proofs.turn.Tie as tie
 

@@ -3,7 +3,8 @@ use native.Mathlib.Omega.{arith}
 use borrow.Author.Needs.{needs}
 use Rattle.kernel.specs.Stand as Stand
 use Rattle.places.proofs.Read.{K, few, arrays-ready, arrays-are, registers-are}
-use Rattle.taking.proofs.Statements.{same-at, read-at, fill-at, use-at, move-at, write-at, as-there, few-places, small-ledger, read-asks, write-asks, fill-asks, use-asks, move-asks}
+use Rattle.places.proofs.Standing.{near, small-ledger}
+use Rattle.taking.proofs.Statements.{same-at, read-at, fill-at, use-at, move-at, write-at, as-there, read-asks, write-asks, fill-asks, use-asks, move-asks}
 use Rattle.taking.proofs.follows.Statement.{statement}
 use Rattle.taking.proofs.follows.Tie as tie
 
@@ -17,13 +18,13 @@ same-requires : tie.Need-same-requires
 same-requires c κs =
     let a = c .before .before .before .before .args in
     let p = c .before .before .before .before .pre in
-    few-places (a .file .now) (a .c) (a .w) (p .0) (p .1)
+    near (a .file .now) (a .c) (a .w) (p .0) (p .1)
 
 read-requires : tie.Need-read-requires
 read-requires c κs =
     let a = c .before .before .before .before .args in
     let p = c .before .before .before .before .pre in
-    let h = few-places (a .file .now) (a .c) (a .w) (p .0) (p .1) in
+    let h = near (a .file .now) (a .c) (a .w) (p .0) (p .1) in
     let q = read-asks (a .file .now) (a .c) (a .w) (p .0) _ (p .5) _ _ (c .before .before .array-next .ensures) (c .before .stream-next .ensures) (read-at (a .code) (c .match .keys2)) in
     (h .0, h .1, h .2, arrays-ready (a .file .now) (a .c) (p .0), q, p .3, small-ledger (a .file .now) (a .c) (a .w) (p .0) (p .1))
 
@@ -31,7 +32,7 @@ fill-requires : tie.Need-fill-requires
 fill-requires c κs =
     let a = c .before .before .before .before .args in
     let p = c .before .before .before .before .pre in
-    let h = few-places (a .file .now) (a .c) (a .w) (p .0) (p .1) in
+    let h = near (a .file .now) (a .c) (a .w) (p .0) (p .1) in
     let q = fill-asks (a .file .now) (a .c) (a .w) (p .0) _ (p .5) _ _ (c .before .before .array-next .ensures) (c .before .stream-next .ensures) (fill-at (a .code) (c .match .keys3)) in
     (h .0, h .1, h .2, arrays-ready (a .file .now) (a .c) (p .0), q .0, p .3, small-ledger (a .file .now) (a .c) (a .w) (p .0) (p .1), q .1, q .2)
 
@@ -39,7 +40,7 @@ uses-requires : tie.Need-uses-requires
 uses-requires c κs =
     let a = c .before .before .before .before .args in
     let p = c .before .before .before .before .pre in
-    let h = few-places (a .file .now) (a .c) (a .w) (p .0) (p .1) in
+    let h = near (a .file .now) (a .c) (a .w) (p .0) (p .1) in
     let q = use-asks (a .file .now) (a .c) (a .w) (p .0) _ (p .5) _ _ (c .before .before .array-next .ensures) (c .before .stream-next .ensures) (use-at (a .code) (c .match .keys4)) in
     (h .0, h .1, h .2, q .0, omega (arith, q .1, few (a .file .now) (a .c) (p .0) .buffers))
 
@@ -47,7 +48,7 @@ moves-requires : tie.Need-moves-requires
 moves-requires c κs =
     let a = c .before .before .before .before .args in
     let p = c .before .before .before .before .pre in
-    let h = few-places (a .file .now) (a .c) (a .w) (p .0) (p .1) in
+    let h = near (a .file .now) (a .c) (a .w) (p .0) (p .1) in
     let q = move-asks (a .file .now) (a .c) (a .w) (p .0) _ (p .5) _ _ (c .before .before .array-next .ensures) (c .before .stream-next .ensures) (move-at (a .code) (c .match .keys5)) in
     (h .0, h .1, h .2, q .0, q .1, q .2, omega (arith, q .3, few (a .file .now) (a .c) (p .0) .buffers))
 
@@ -55,7 +56,7 @@ write-requires : tie.Need-write-requires
 write-requires c κs =
     let a = c .before .before .before .before .args in
     let p = c .before .before .before .before .pre in
-    let h = few-places (a .file .now) (a .c) (a .w) (p .0) (p .1) in
+    let h = near (a .file .now) (a .c) (a .w) (p .0) (p .1) in
     let o = write-at (K (a .file .now) (a .c)) (Stand.beginning (K (a .file .now) (a .c))) _ _ (a .code) (p .4) (p .5 _) (c .match .rest .0 .0 .0 .0 .1) (c .match .rest .0 .0 .0 .1) (c .match .rest .0 .0 .1) (c .match .rest .0 .1) (c .match .rest .1) in
     let q = write-asks (a .file .now) (a .c) (a .w) (p .0) _ (p .5) _ _ (c .before .before .array-next .ensures) (c .before .stream-next .ensures) o in
     (h .0, h .1, h .2, arrays-ready (a .file .now) (a .c) (p .0), q, p .3, small-ledger (a .file .now) (a .c) (a .w) (p .0) (p .1))

@@ -17,7 +17,7 @@ use Rattle.ends.specs.declared.Part.{Part}
 use Rattle.ledger.specs.View.{ledger}
 use Rattle.places.specs.View.{loop-there, Closing}
 use Rattle.places.proofs.Read.{few, array-derived}
-use Rattle.opening.proofs.Going.{bounded-wider}
+use Rattle.places.proofs.Standing.{bounded-wider}
 use Rattle.walk.specs.View.{Goes, Further}
 use Rattle.walk.proofs.Walks.{goes-none, goes-rule, goes-then, goes-stop, comes-inside}
 use Rattle.walk.proofs.Stretches.{closing-code, other-code, plain-code, stops-inside, for-body, for-left, if-entered, if-first, if-turned, if-second, if-left, further-none, further-then, further-opens, further-rule, further-for, further-if, opens-for, opens-if, opens-else, loop-is}
