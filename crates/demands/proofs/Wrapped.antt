@@ -6,7 +6,8 @@ use mathlib.Core.List.{List, [], _∷_, map}
 use native.Mathlib.Omega.{arith}
 use lib.ListN.{length, getD, set, replicate, length-map}
 use Rattle.numbers.specs.Words.{words, bytes}
-use Rattle.numbers.proofs.Areas.{AllBelow, none-there, below-too, words-bytes}
+use Rattle.numbers.specs.Areas.{AllBelow, none-there, below-too}
+use Rattle.numbers.proofs.Areas.{words-bytes}
 use Rattle.kernel.specs.File.{Kernel, input, output, length-of, count-of}
 use Rattle.kernel.specs.Memory.{total, cells, laid-out, placed, put-back}
 use Rattle.kernel.proofs.Orders.{cells-length}

@@ -6,7 +6,7 @@ use mathlib.Core.Logic.{_↔_}
 use mathlib.Core.List.{List}
 use lib.ListN.{length}
 use Rattle.numbers.specs.Result.{ok}
-use Rattle.numbers.proofs.Areas.{AllBelow}
+use Rattle.numbers.specs.Areas.{AllBelow}
 use Rattle.kernel.specs.File.{Kernel, input, output, length-of, count-of}
 use Rattle.kernel.specs.Reading.{read-file}
 use Rattle.kernel.specs.Rules.{Derived}

@@ -12,7 +12,7 @@ use lib.ListN.{length, getD, set, replicate, length-append, length-set, List·ge
 use lib.Seq.{set-out}
 use borrow.Author.Tests.{lt-ltb, le-ltb}
 use Rattle.numbers.specs.Words.{words, bytes}
-use Rattle.numbers.specs.Areas.{word, put-word}
+use Rattle.numbers.specs.Areas.{AllBelow, none-there, below-too, word, put-word}
 
 pub words-length : (m : List ℕ) → length (words m) ≡ length m / 4
 unfolding words
@@ -110,11 +110,6 @@ put-length m i w = by (decLt i (length m / 4))
     by (no n) = ap length (put-past m i w (omega arith))
 
 -- ---- bytes and words, one to one
-
--- every number of a row is below n
-pub data AllBelow (n : ℕ) : List ℕ → Type 0 where
-  none-there : AllBelow n []
-  below-too : {x : ℕ} {l : List ℕ} → x < n → AllBelow n l → AllBelow n (x ∷ l)
 
 pub words-bytes : {ws : List ℕ} → AllBelow 4294967296 ws → words (bytes ws) ≡ ws
 unfolding words bytes

@@ -11,7 +11,8 @@ use lib.ListN.{length, getD, take, drop, replicate}
 use Rattle.numbers.specs.Result.{ok}
 use Rattle.numbers.specs.Lists.{sum}
 use Rattle.numbers.specs.Words.{words, bytes}
-use Rattle.numbers.proofs.Areas.{AllBelow, none-there, below-too, words-bytes, zeros-bytes}
+use Rattle.numbers.specs.Areas.{AllBelow, none-there, below-too}
+use Rattle.numbers.proofs.Areas.{words-bytes, zeros-bytes}
 use Rattle.numbers.proofs.Results.{on-at}
 use Rattle.kernel.specs.File.{Rec, numbers, Kernel, nothing, input, output, on, only, length-of, count-of, array}
 use Rattle.kernel.specs.Reading.{read-file, array-scope, stream-scope}
