@@ -10,12 +10,20 @@ const ACCEPTED: &str =
 const ANSWERS: &str = "expected 'accepted', 'read N SECTION RECORD', 'check N DERIVATION ARRAY STREAM', \
     'run REASON STATEMENT' or 'stream REASON STATEMENT'";
 
-/// The lines that explain an answer of FILE; the error says what the answer should look like.
+/// The lines that explain an answer about a file; the error says what the answer should look like.
 pub fn explain(file: &[u8], answer: &[&str]) -> Result<String, String> {
+    explain_in(file, Kernel::whole(file).map(unpack::scope), answer)
+}
+
+/// The same with a text's own names and lines.
+pub fn explain_text(scope: Scope, answer: &[&str]) -> Result<String, String> {
+    explain_in(&scope.kernel.bytes(), Ok(scope), answer)
+}
+
+fn explain_in(file: &[u8], scope: Result<Scope, String>, answer: &[&str]) -> Result<String, String> {
     let (kind, numbers) = answer.split_first().ok_or("no answer to explain")?;
     let numbers: Option<Vec<u32>> = numbers.iter().map(|word| word.parse().ok()).collect();
     let numbers = numbers.ok_or("the numbers of an answer are whole numbers from 0 up")?;
-    let scope = Kernel::whole(file).map(unpack::scope);
     match (*kind, numbers.as_slice()) {
         ("accepted", []) => Ok(ACCEPTED.to_string()),
         ("read", &[2, section, _]) => Ok(title(words::reading(2), "read", 2, "1 to 5")? + &counted(file, section)),
@@ -119,7 +127,9 @@ fn shown(section: Section, number: u32, scope: &Scope) -> String {
         None if number as usize == records.len() => "(the section's end: past its last record)".to_string(),
         None => format!("(no such place: the section has only {} records)", records.len()),
     };
-    format!("  {:<14} {number:>4}: {line}\n", section.title())
+    let place = scope.lines[section as usize].get(number as usize);
+    let place = place.map_or_else(String::new, |place| format!("  (line {place})"));
+    format!("  {:<14} {number:>4}: {line}{place}\n", section.title())
 }
 
 /// The numbers of the hold rows behind a for.

@@ -7,6 +7,14 @@ use crate::kernel::{Kernel, Record, Section, INPUT, OUTPUT};
 pub struct Scope {
     pub kernel: Kernel,
     pub names: Vec<String>,
+    /// For each section the lines that its records stand in; none where the kernel is not from a text.
+    pub lines: [Vec<usize>; 4],
+}
+
+impl Scope {
+    pub fn of(kernel: Kernel) -> Scope {
+        Scope { kernel, names: Vec::new(), lines: Default::default() }
+    }
 }
 
 pub const OPERATORS: [&str; 4] = ["add", "subtract", "multiply", "divide"];

@@ -5,12 +5,14 @@ mod form;
 mod kernel;
 mod line;
 mod pack;
+mod request;
 #[cfg(test)]
 mod tests;
 mod unpack;
 mod words;
 
 use kernel::Kernel;
+use line::Scope;
 use std::fs;
 use std::io::{self, Write};
 use std::process::ExitCode;
@@ -18,12 +20,18 @@ use std::process::ExitCode;
 const USAGE: &str = "usage:
   quivertext pack TEXT FILE         make a kernel file from text
   quivertext unpack FILE TEXT       make commented text from a kernel file; - for standard output
-  quivertext explain FILE ANSWER    an answer in words, with the statements it speaks of; ANSWER is a line of check
+  quivertext explain FILE ANSWER    an answer in words, with the statements it speaks of; of a text (a name that ends
+                                    in .txt) with its names and lines. ANSWER is a line of check
                                     (accepted, read N SECTION RECORD, check N DERIVATION ARRAY STREAM),
                                     or run REASON STATEMENT (array run), or stream REASON STATEMENT (stream run)
   quivertext sizes FILE             how many numbers each lent memory of a kernel file has
-  quivertext words OUT NUMBER..     write decimal numbers as a memory: 32 bits each, low byte first
+  quivertext words OUT NUMBER..     write decimal numbers as a memory: 32 bits each, low byte first; - in place of the
+                                    numbers: those on standard input
   quivertext decimals FILE          print a memory as decimal numbers
+  quivertext request CALL FILE INPUT NUMBERS OUT
+                                    write a request for batch: CALL is check, array-run, stream-run, lay-out or
+                                    put-back; INPUT a memory, or - for none; the output area has NUMBERS numbers
+  quivertext reply REPLY OUT        print the four parts of batch's answer, and write the output area
   quivertext help                   this text
 exit status: 0 done, 1 a bad text, a bad file, or one that can't be read or written, 2 misuse";
 
@@ -35,15 +43,18 @@ fn main() -> ExitCode {
         ["unpack", file, text] => unpack_file(file, text),
         ["explain", file, answer @ ..] if !answer.is_empty() => {
             let answer = answer.join(" ");
-            match bytes_of(file).map(|bytes| explain::explain(&bytes, &answer.split_whitespace().collect::<Vec<_>>())) {
+            match explained(file, &answer.split_whitespace().collect::<Vec<_>>()) {
                 Ok(Ok(text)) => print(&text),
                 Ok(Err(what)) => return misuse(&format!("'{answer}': {what}")),
                 Err(what) => Err(what),
             }
         }
         ["sizes", file] => print_sizes(file),
+        ["words", out, "-"] => all_of_input().and_then(|numbers| write_words(out, &[&numbers])),
         ["words", out, numbers @ ..] => write_words(out, numbers),
         ["decimals", file] => print_decimals(file),
+        ["request", call, file, input, numbers, out] => write_request(call, file, input, numbers, out),
+        ["reply", reply, out] => take_reply(reply, out),
         ["help" | "--help" | "-h"] => print(&format!("{USAGE}\n")),
         [] => return misuse("no command"),
         [command, ..] => return misuse(&format!("unknown command or wrong number of arguments: '{command}'")),
@@ -63,13 +74,24 @@ fn misuse(what: &str) -> ExitCode {
 }
 
 fn pack_file(from: &str, to: &str) -> Result<(), String> {
+    write(from, to, &packed(from)?.kernel.bytes())
+}
+
+fn packed(from: &str) -> Result<Scope, String> {
     let bytes = bytes_of(from)?;
     let text = std::str::from_utf8(&bytes).map_err(|error| {
         let line = 1 + bytes[..error.valid_up_to()].iter().filter(|byte| **byte == b'\n').count();
         format!("{from}:{line}: a byte that is no text; expected UTF-8")
     })?;
-    let kernel = pack::pack(text).map_err(|wrong| format!("{from}:{}: {}", wrong.line, wrong.what))?;
-    write(from, to, &kernel.bytes())
+    pack::pack(text).map_err(|wrong| format!("{from}:{}: {}", wrong.line, wrong.what))
+}
+
+/// A file that can't be used is the outer error, an answer that is none the inner one.
+fn explained(file: &str, answer: &[&str]) -> Result<Result<String, String>, String> {
+    if file.ends_with(".txt") {
+        return Ok(explain::explain_text(packed(file)?, answer));
+    }
+    Ok(explain::explain(&bytes_of(file)?, answer))
 }
 
 fn unpack_file(from: &str, to: &str) -> Result<(), String> {
@@ -100,6 +122,23 @@ fn print_decimals(file: &str) -> Result<(), String> {
     let numbers = kernel::numbers(&bytes_of(file)?).map_err(|what| format!("{file}: {what}"))?;
     let decimals: Vec<String> = numbers.iter().map(i32::to_string).collect();
     print(&format!("{}\n", decimals.join(" ")))
+}
+
+fn write_request(call: &str, file: &str, input: &str, numbers: &str, out: &str) -> Result<(), String> {
+    let input = if input == "-" { Vec::new() } else { bytes_of(input)? };
+    let request = request::request(call, &bytes_of(file)?, &input, numbers)?;
+    write(file, out, &request)
+}
+
+fn take_reply(reply: &str, out: &str) -> Result<(), String> {
+    let bytes = bytes_of(reply)?;
+    let (parts, output) = request::reply(&bytes).map_err(|what| format!("{reply}: {what}"))?;
+    write(reply, out, output)?;
+    print(&format!("{} {} {} {}\n", parts[0], parts[1], parts[2], parts[3]))
+}
+
+fn all_of_input() -> Result<String, String> {
+    io::read_to_string(io::stdin()).map_err(|error| format!("standard input: {error}"))
 }
 
 fn kernel_of(file: &str) -> Result<Kernel, String> {

@@ -18,19 +18,20 @@ enum Stage {
     In(Section),
 }
 
-pub fn pack(text: &str) -> Result<Kernel, Wrong> {
-    let mut scope = Scope { kernel: Kernel::new(0, 0), names: Vec::new() };
+/// The kernel of a text, with the text's names and lines.
+pub fn pack(text: &str) -> Result<Scope, Wrong> {
+    let mut scope = Scope::of(Kernel::new(0, 0));
     let mut stage = Stage::Nothing;
     let mut line = 0;
     for content in text.lines() {
         line += 1;
         let content = content.split(';').next().unwrap_or("").trim();
         if !content.is_empty() {
-            take_line(content, &mut stage, &mut scope).map_err(|what| Wrong { line, what })?;
+            take_line(content, line, &mut stage, &mut scope).map_err(|what| Wrong { line, what })?;
         }
     }
     match heading(&stage) {
-        None => Ok(scope.kernel),
+        None => Ok(scope),
         Some(due) => Err(Wrong { line: line.max(1), what: format!("the text ends too soon; expected '{due}'") }),
     }
 }
@@ -49,7 +50,7 @@ fn following(section: Section) -> Option<Section> {
     Section::ALL.get(section as usize + 1).copied()
 }
 
-fn take_line(content: &str, stage: &mut Stage, scope: &mut Scope) -> Result<(), String> {
+fn take_line(content: &str, line: usize, stage: &mut Stage, scope: &mut Scope) -> Result<(), String> {
     match *stage {
         Stage::Nothing => {
             scope.kernel.registers = count(content, "registers", 1, 32)?;
@@ -67,7 +68,10 @@ fn take_line(content: &str, stage: &mut Stage, scope: &mut Scope) -> Result<(), 
         }
         Stage::In(section) => match following(section) {
             Some(next) if is_heading(content, next) => *stage = Stage::In(next),
-            next => take_record(content, section, next, scope)?,
+            next => {
+                take_record(content, section, next, scope)?;
+                scope.lines[section as usize].push(line);
+            }
         },
     }
     Ok(())

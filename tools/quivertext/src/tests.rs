@@ -1,7 +1,8 @@
 //! Expected bytes worked out by hand from document 01; round trips over the vectors, changed vectors and noise.
 
-use crate::explain::explain;
+use crate::explain::{explain, explain_text};
 use crate::kernel::{numbers, sizes, Kernel, Section};
+use crate::request::{reply, request};
 use crate::{form, pack, unpack};
 use std::fs;
 use std::path::{Path, PathBuf};
@@ -15,7 +16,7 @@ const COPYING_NUMBERS: &str = "1 0 2 1 1 0 1 1 0 0 0 2 1 0 1 1 0 0 0 2 4 0 0 0 0
 
 fn packed(text: &str) -> Vec<u8> {
     match pack::pack(text) {
-        Ok(kernel) => kernel.bytes(),
+        Ok(scope) => scope.kernel.bytes(),
         Err(wrong) => panic!("line {}: {}", wrong.line, wrong.what),
     }
 }
@@ -23,8 +24,10 @@ fn packed(text: &str) -> Vec<u8> {
 /// What is wrong with a text in which one line was changed.
 fn wrong(text: &str, old: &str, new: &str) -> String {
     assert!(text.contains(old));
-    let wrong = pack::pack(&text.replacen(old, new, 1)).expect_err("bad text packs");
-    format!("{}: {}", wrong.line, wrong.what)
+    match pack::pack(&text.replacen(old, new, 1)) {
+        Ok(_) => panic!("bad text packs: {new}"),
+        Err(wrong) => format!("{}: {}", wrong.line, wrong.what),
+    }
 }
 
 fn bytes_of_decimals(text: &str) -> Vec<u8> {
@@ -238,19 +241,44 @@ fn answers_are_explained() {
 #[test]
 fn memories_have_their_sizes() {
     let text = COPYING.replace("from length 1 first 0 count 1 step 1", "from length 9 first 8 count 4 step -2");
-    let kernel = pack::pack(&text).expect("a kernel");
     let expected = [("array-input", 9), ("array-output", 1), ("stream-input", 4), ("stream-output", 1)];
-    assert_eq!(sizes(&kernel), Ok(expected));
-    assert!(sizes(
-        &pack::pack(
-            &text
-                .replace("output to length 1 first 0 count 1 step 1", "raw 2 0 0 0 0 0 0 0")
-                .replace("store r0 to 0", "")
-                .replace("write r0 1", "")
-        )
-        .expect("a kernel")
-    )
-    .is_err());
+    let sizes_of = |text: &str| sizes(&Kernel::whole(&packed(text)).expect("a kernel"));
+    assert_eq!(sizes_of(&text), Ok(expected));
+    let text = text.replace("output to length 1 first 0 count 1 step 1", "raw 2 0 0 0 0 0 0 0");
+    assert!(sizes_of(&text.replace("store r0 to 0", "").replace("write r0 1", "")).is_err());
+}
+
+#[test]
+fn a_texts_answer_is_explained_with_its_names_and_lines() {
+    let said = |text: &str, answer: &str| match pack::pack(text) {
+        Ok(scope) => explain_text(scope, &answer.split(' ').collect::<Vec<_>>()).expect("text"),
+        Err(wrong) => panic!("line {}: {}", wrong.line, wrong.what),
+    };
+    let text = said(COPYING, "check 11 1 1 2");
+    assert!(text.contains("derivation        1: write  (line 14)\n"), "{text}");
+    assert!(text.contains("array program     1: store r0 to 0  (line 8)\n"), "{text}");
+    assert!(text.contains("stream program    2: (the section's end: past its last record)\n"), "{text}");
+    assert!(text.contains("arrays            0: input from length 1 first 0 count 1 step 1  (line 4)\n"), "{text}");
+    let text = said(&COPYING.replace("input from length", "input length").replace("from", "0"), "check 11 0 0 0");
+    assert!(text.contains("arrays            0: input length 1 first 0 count 1 step 1  (line 4)\n"), "{text}");
+}
+
+#[test]
+fn requests_and_replies_have_their_bytes() {
+    let expected = [4, 0, 0, 0, 2, 0, 0, 0, 7, 8, 1, 0, 0, 0, 9, 4, 0, 0, 0, 255, 255, 255, 255];
+    assert_eq!(request("lay-out", &[7, 8], &[9], "1"), Ok(expected.to_vec()));
+    let expected = [1, 0, 0, 0, 1, 0, 0, 0, 7, 0, 0, 0, 0, 0, 0, 0, 0];
+    assert_eq!(request("check", &[7], &[], "0"), Ok(expected.to_vec()));
+    assert!(request("run", &[], &[], "0").is_err());
+    assert!(request("check", &[0; 65_536], &[], "16384").is_ok());
+    assert!(request("check", &[0; 65_537], &[], "0").is_err());
+    for bad in ["16385", "-1", "x", "", "18446744073709551615"] {
+        assert!(request("check", &[], &[], bad).is_err(), "{bad}");
+    }
+    assert_eq!(reply(&[32, 0, 7, 0, 2, 1, 0, 255]), Ok(([32, 7, 258, 65_280], [].as_slice())));
+    assert_eq!(reply(&[0, 0, 0, 0, 4, 0, 3, 0, 15, 0, 0, 0]), Ok(([0, 0, 4, 3], [15, 0, 0, 0].as_slice())));
+    assert!(reply(&[0; 7]).is_err());
+    assert!(reply(&[255; 8]).is_err());
 }
 
 /// splitmix64

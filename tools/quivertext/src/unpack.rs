@@ -9,7 +9,7 @@ const COLUMN: usize = 48;
 
 /// A kernel with a name for each array that words can say: a file has no names.
 pub fn scope(kernel: Kernel) -> Scope {
-    let mut scope = Scope { kernel, names: Vec::new() };
+    let mut scope = Scope::of(kernel);
     for (number, array) in scope.kernel.arrays().iter().enumerate() {
         let name = if array[0] == INPUT { format!("in{number}") } else { format!("out{number}") };
         let said = wrong(Section::Arrays, number, &scope).is_none();
@@ -93,7 +93,7 @@ pub fn wrong(section: Section, number: usize, scope: &Scope) -> Option<String> {
         return Some(format!("code {}; expected 1 to {codes}", record[0]));
     }
     // an array's own name is not taken yet where its line stands
-    let above = Scope { kernel: Kernel::new(0, 0), names: Vec::new() };
+    let above = Scope::of(Kernel::new(0, 0));
     let reading = if section == Section::Arrays { &above } else { scope };
     let said = match line::parse(&attempt(*record, section, number, scope), section, reading) {
         Ok(said) => said,
@@ -116,7 +116,8 @@ fn attempt(record: Record, section: Section, number: usize, scope: &Scope) -> St
 fn array_words(record: Record, name: &str) -> String {
     let [code, length, first, count, step, ..] = record;
     let side = if code == INPUT { "input" } else { "output" };
-    format!("{side} {name} length {length} first {first} count {count} step {step}")
+    let name = if name.is_empty() { String::new() } else { format!(" {name}") };
+    format!("{side}{name} length {length} first {first} count {count} step {step}")
 }
 
 fn statement_words(record: Record, section: Section, scope: &Scope) -> String {
