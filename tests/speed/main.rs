@@ -1,0 +1,165 @@
+// How fast the proved code is beside the second implementation: both are called in this one program, on the same bytes, in turns.
+// Each call reads the file, and a run clears its output, on both sides.
+#![allow(dead_code)]
+
+#[path = "../second/src/answer.rs"]
+mod answer;
+#[path = "../second/src/check.rs"]
+mod check;
+#[path = "../second/src/file.rs"]
+mod file;
+#[path = "../second/src/order.rs"]
+mod order;
+#[path = "../second/src/run.rs"]
+mod run;
+
+use answer::Call;
+use std::time::Instant;
+
+extern "C" {
+    fn sq_check(file: *const u8, n: usize) -> u64;
+    fn sq_array_run(file: *const u8, n: usize, input: *const u8, i: usize, output: *mut u8, o: usize) -> u64;
+    fn sq_stream_run(file: *const u8, n: usize, input: *const u8, i: usize, output: *mut u8, o: usize) -> u64;
+}
+
+fn proved(call: Call, file: &[u8], input: &[u8], output: &mut [u8]) -> u64 {
+    let (f, n, i, m) = (file.as_ptr(), file.len(), input.as_ptr(), input.len());
+    unsafe {
+        match call {
+            Call::Check => sq_check(f, n),
+            Call::ArrayRun => sq_array_run(f, n, i, m, output.as_mut_ptr(), output.len()),
+            _ => sq_stream_run(f, n, i, m, output.as_mut_ptr(), output.len()),
+        }
+    }
+}
+
+// ---- kernels
+
+type Rec = [i32; 8];
+
+fn bytes_of(registers: i32, buffers: i32, sections: &[&[Rec]]) -> Vec<u8> {
+    let mut numbers = vec![registers, buffers];
+    for s in sections {
+        numbers.push(s.len() as i32);
+        numbers.extend(s.iter().flatten());
+    }
+    numbers.iter().flat_map(|n| n.to_le_bytes()).collect()
+}
+
+// The smoother of document 01 over 4,096 cells.
+fn smoother() -> Vec<u8> {
+    let arrays = [[1, 4096, 0, 4096, 1, 0, 0, 0], [2, 4095, 0, 4095, 1, 0, 0, 0]];
+    let array = [
+        [8, 0, 4095, 1, 0, 0, 0, 0],
+        [4, 0, 0, 0, 1, 0, 0, 0],
+        [4, 1, 0, 1, 1, 0, 0, 0],
+        [3, 0, 0, 1, 1, 0, 0, 0],
+        [1, 1, 0, 2, 0, 0, 0, 0],
+        [3, 0, 0, 1, 4, 0, 0, 0],
+        [5, 0, 1, 0, 1, 0, 0, 0],
+        [11, 0, 0, 0, 0, 0, 0, 0],
+    ];
+    let stream = [
+        [6, 2, 0, 0, 0, 0, 0, 0],
+        [8, 0, 4095, 1, 0, 0, 0, 0],
+        [2, 0, 2, 0, 0, 0, 0, 0],
+        [6, 2, 0, 0, 0, 0, 0, 0],
+        [2, 1, 2, 0, 0, 0, 0, 0],
+        [3, 0, 0, 1, 1, 0, 0, 0],
+        [1, 1, 0, 2, 0, 0, 0, 0],
+        [3, 0, 0, 1, 4, 0, 0, 0],
+        [7, 0, 1, 0, 0, 0, 0, 0],
+        [11, 0, 0, 0, 0, 0, 0, 0],
+    ];
+    let rule = |code| [code, 0, 0, 0, 0, 0, 0, 0];
+    let derivation = [
+        rule(3),
+        rule(7),
+        [11, 0, 0, 1, 1, 0, 0, 0],
+        [11, 1, 0, 0, 1, 0, 0, 0],
+        [12, 0, 0, 0, 1, 0, 0, 0],
+        rule(4),
+        rule(3),
+        rule(4),
+        rule(1),
+        rule(1),
+        rule(1),
+        rule(6),
+        rule(10),
+    ];
+    bytes_of(2, 1, &[&arrays, &array, &stream, &derivation])
+}
+
+// As many rules and hold rows as a file may have: 8 streams passed once, then 39 empty loops with 24 rows each.
+fn longest() -> Vec<u8> {
+    let mut arrays = [[1, 1, 0, 1, 1, 0, 0, 0]; 8];
+    arrays[7][0] = 2;
+    let (mut array, mut stream, mut derivation) = (vec![], vec![], vec![]);
+    for q in 0..7 {
+        array.push([4, 0, q, 0, 0, 0, 0, 0]);
+        stream.push([6, 0, q, 0, 0, 0, 0, 0]);
+        derivation.push([2, 0, 0, 0, 0, 0, 0, 0]);
+    }
+    array.push([5, 0, 7, 0, 0, 0, 0, 0]);
+    stream.push([7, 0, 7, 0, 0, 0, 0, 0]);
+    derivation.push([6, 0, 0, 0, 0, 0, 0, 0]);
+    for _ in 0..39 {
+        for program in [&mut array, &mut stream] {
+            program.push([8, 0, 2, 1, 0, 0, 0, 0]);
+            program.push([11, 0, 0, 0, 0, 0, 0, 0]);
+        }
+        derivation.push([7, 0, 0, 0, 0, 0, 0, 0]);
+        derivation.extend((0..8).map(|p| [11, p, 0, 1, 0, 0, 0, 0]));
+        derivation.extend((0..16).map(|p| [12, p, -1, 0, 0, 0, 0, 0]));
+        derivation.push([10, 0, 0, 0, 0, 0, 0, 0]);
+    }
+    bytes_of(1, 16, &[&arrays, &array, &stream, &derivation])
+}
+
+// ---- measuring
+
+// Seconds of one call, the least of several rounds in which the two sides take turns.
+fn times(call: Call, file: &[u8], input: &[u8], output: usize) -> (f64, f64) {
+    let mut ours = vec![0xa5; output];
+    let mut theirs = vec![0xa5; output];
+    let a = proved(call, file, input, &mut ours);
+    let b = answer::call(call, file, input, &mut theirs);
+    assert_eq!((a, &ours), (b, &theirs), "the two implementations differ");
+    assert_eq!(a & 0xffff, 0, "the kernel is accepted and its runs end");
+    let (mut x, mut y) = (f64::MAX, f64::MAX);
+    for _ in 0..ROUNDS {
+        x = x.min(seconds(|| {
+            std::hint::black_box(proved(call, file, input, &mut ours));
+        }));
+        y = y.min(seconds(|| {
+            std::hint::black_box(answer::call(call, file, input, &mut theirs));
+        }));
+    }
+    (x, y)
+}
+
+const ROUNDS: usize = 40;
+const CALLS: u32 = 50;
+
+fn seconds(mut f: impl FnMut()) -> f64 {
+    let start = Instant::now();
+    for _ in 0..CALLS {
+        f();
+    }
+    start.elapsed().as_secs_f64() / f64::from(CALLS)
+}
+
+fn line(what: &str, unit: &str, amount: f64, (ours, theirs): (f64, f64)) {
+    println!("{what:<34} {:>12.0} {:>12.0} {unit:<14} {:>5.2}", amount / ours, amount / theirs, theirs / ours);
+}
+
+fn main() {
+    let (smoother, longest) = (smoother(), longest());
+    let input: Vec<u8> = (0..4096).flat_map(|n: i32| (n * 7919 - 50_000).to_le_bytes()).collect();
+    let statements = |before: f64, body: f64| before + 1.0 + 4095.0 * (body + 1.0);
+    println!("{:<34} {:>12} {:>12} {:<14} {:>5}", "", "proved", "second", "", "ratio");
+    line("array run, smoother of 4,096", "statements/s", statements(0.0, 6.0), times(Call::ArrayRun, &smoother, &input, 4 * 4095));
+    line("stream run, smoother of 4,096", "statements/s", statements(1.0, 7.0), times(Call::StreamRun, &smoother, &input, 4 * 4095));
+    line("check, smoother", "files/s", 1.0, times(Call::Check, &smoother, &[], 0));
+    line("check, 1,022 derivation records", "files/s", 1.0, times(Call::Check, &longest, &[], 0));
+}
