@@ -1,0 +1,48 @@
+-- `batch::bytes` meets its contract.
+use mathlib.Core.Path.{refl}
+use Rattle.batch.specs.Reply.{eight}
+use borrow.Author.Needs.{needs}
+use Rattle.batch.proofs.bytes.Statement.{statement}
+use Rattle.batch.proofs.bytes.Tie as tie
+
+cast-t3 : tie.Need-cast-t3
+cast-t3 c =
+    search needs
+
+cast-t6 : tie.Need-cast-t6
+cast-t6 c =
+    search needs
+
+cast-t9 : tie.Need-cast-t9
+cast-t9 c =
+    search needs
+
+cast-t12 : tie.Need-cast-t12
+cast-t12 c =
+    search needs
+
+cast-t15 : tie.Need-cast-t15
+cast-t15 c =
+    search needs
+
+cast-t18 : tie.Need-cast-t18
+cast-t18 c =
+    search needs
+
+cast-t21 : tie.Need-cast-t21
+cast-t21 c =
+    search needs
+
+cast-t24 : tie.Need-cast-t24
+cast-t24 c =
+    search needs
+
+returns : tie.Need-returns
+unfolding eight
+returns c =
+    refl
+
+pub bytes-spec : {M : Type 1} → statement M
+bytes-spec =
+    tie.close
+    (tie.spec cast-t3 cast-t6 cast-t9 cast-t12 cast-t15 cast-t18 cast-t21 cast-t24 returns)
