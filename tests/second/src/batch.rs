@@ -1,6 +1,6 @@
-//! Requests and replies of the program `batch`, and a histogram over a batch.
+//! Requests and replies of the program `batch`; another program's replies compared with this crate's.
 
-use crate::answer::{call, Call};
+use crate::answer::{call, parts, Call};
 use std::io::{self, Read, Write};
 
 /// The longest area, in bytes.
@@ -83,6 +83,13 @@ impl Request {
         }
         Ok(())
     }
+
+    /// The answer word, then the output area as the call leaves it.
+    pub fn reply(&self) -> Vec<u8> {
+        let mut output = self.output.clone();
+        let word = call(self.call, &self.file, &self.input, &mut output);
+        [&word.to_le_bytes()[..], &output].concat()
+    }
 }
 
 /// Answers a whole batch. A check leaves the output area as it came.
@@ -91,11 +98,53 @@ pub fn answer(source: &mut impl Read, sink: &mut impl Write) -> io::Result<()> {
         match next(source)? {
             Next::Over => return Ok(()),
             Next::Bad => return sink.write_all(&BAD_REQUEST.to_le_bytes()),
-            Next::Request(mut request) => {
-                let word = call(request.call, &request.file, &request.input, &mut request.output);
-                sink.write_all(&word.to_le_bytes())?;
-                sink.write_all(&request.output)?;
-            }
+            Next::Request(request) => sink.write_all(&request.reply())?,
         }
     }
+}
+
+/// Compares another program's replies to a batch with this crate's: how many requests agree, or how the first differs.
+pub fn compare(source: &mut impl Read, replies: &mut impl Read) -> io::Result<Result<usize, String>> {
+    let mut agreed = 0;
+    loop {
+        let request = next(source)?;
+        let (title, ours) = match &request {
+            Next::Over => ("end".to_string(), Vec::new()),
+            Next::Bad => ("bad request".to_string(), BAD_REQUEST.to_le_bytes().to_vec()),
+            Next::Request(request) => (format!("{:?}", request.call), request.reply()),
+        };
+        let mut theirs = vec![0; ours.len()];
+        let there = fill(replies, &mut theirs)?;
+        if theirs[..there] != ours {
+            return Ok(Err(format!("request {agreed} ({title}): {}", difference(&ours, &theirs[..there]))));
+        }
+        if let Next::Request(_) = request {
+            agreed += 1;
+        } else if fill(replies, &mut [0])? != 0 {
+            return Ok(Err(format!("after {agreed} requests ({title}): replies left over")));
+        } else {
+            return Ok(Ok(agreed));
+        }
+    }
+}
+
+fn difference(ours: &[u8], theirs: &[u8]) -> String {
+    let word = |reply: &[u8]| match reply.first_chunk() {
+        Some(eight) => format!("{:?}", parts(u64::from_le_bytes(*eight))),
+        None => "no word".to_string(),
+    };
+    let place = ours.iter().zip(theirs).position(|(one, other)| one != other).unwrap_or(theirs.len());
+    format!("here {}, there {}; they differ from byte {place} of {} on", word(ours), word(theirs), ours.len())
+}
+
+/// Writes request number `wanted`, from 0, as a batch of its own; false where there is none.
+pub fn pick(source: &mut impl Read, wanted: usize, sink: &mut impl Write) -> io::Result<bool> {
+    for number in 0.. {
+        match next(source)? {
+            Next::Request(request) if number == wanted => return request.write(sink).map(|()| true),
+            Next::Request(_) => {}
+            Next::Over | Next::Bad => break,
+        }
+    }
+    Ok(false)
 }

@@ -25,8 +25,10 @@ const USAGE: &str = "usage:
   second answer               answer a batch: requests on standard input, replies on standard output
   second requests SEED N DIR  write N requests as a batch: the vectors of DIR, document 01's lines, then a mixture
   second histogram            count what the requests of a batch on standard input come to
+  second compare REPLIES      answer a batch on standard input and compare with the replies of another program
+  second pick K               write request K of a batch on standard input, from 0, as a batch of its own
   second help                 this text
-exit status: 0 done, 1 a vector failed or a file could not be read or written, 2 misuse";
+exit status: 0 done, 1 a vector failed, replies differ or a file could not be read or written, 2 misuse";
 
 fn main() -> ExitCode {
     let arguments: Vec<String> = std::env::args().skip(1).collect();
@@ -39,6 +41,11 @@ fn main() -> ExitCode {
             _ => return misuse("SEED and N are whole numbers from 0 up"),
         },
         ["histogram"] => print_histogram(),
+        ["compare", replies] => compare_replies(Path::new(replies)),
+        ["pick", number] => match number.parse() {
+            Ok(number) => pick_request(number),
+            Err(_) => return misuse("K is a whole number from 0 up"),
+        },
         ["help"] => {
             println!("{USAGE}");
             Ok(true)
@@ -80,4 +87,29 @@ fn print_histogram() -> Result<bool, String> {
     let counts = histogram::histogram(&mut source).map_err(|error| error.to_string())?;
     counts.print();
     Ok(true)
+}
+
+fn compare_replies(path: &Path) -> Result<bool, String> {
+    let file = std::fs::File::open(path).map_err(|error| format!("{}: {error}", path.display()))?;
+    let mut source = BufReader::new(io::stdin().lock());
+    match batch::compare(&mut source, &mut BufReader::new(file)).map_err(|error| error.to_string())? {
+        Ok(agreed) => println!("{agreed} requests agree"),
+        Err(difference) => {
+            println!("{difference}");
+            return Ok(false);
+        }
+    }
+    Ok(true)
+}
+
+fn pick_request(number: usize) -> Result<bool, String> {
+    let mut source = BufReader::new(io::stdin().lock());
+    let mut sink = BufWriter::new(io::stdout().lock());
+    let found = batch::pick(&mut source, number, &mut sink).map_err(|error| error.to_string())?;
+    sink.flush().map_err(|error| error.to_string())?;
+    if found {
+        Ok(true)
+    } else {
+        Err(format!("the batch has no request {number}"))
+    }
 }

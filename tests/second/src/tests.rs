@@ -1,7 +1,7 @@
 //! Tests of this implementation against document 01 and against itself.
 
 use crate::answer::{bytes, call, check_line, parts, word, Call};
-use crate::batch::{answer, next, Next, Request};
+use crate::batch::{answer, compare, next, pick, Next, Request};
 use crate::check::check;
 use crate::file::{read, File};
 use crate::make::{longest, measured_lines, requests};
@@ -117,6 +117,24 @@ fn batch_stops_at_a_bad_request() {
     assert_eq!(answered(&batch), [1, 0, 0, 0, 0, 0, 0, 0, 2, 3]);
     batch.pop();
     assert_eq!(answered(&batch), bad);
+}
+
+#[test]
+fn replies_are_compared() {
+    let mut batch = Vec::new();
+    requests(5, 40, &[], &mut batch).expect("memory does not fail");
+    let compared = |replies: &[u8]| compare(&mut &batch[..], &mut &replies[..]).expect("memory does not fail");
+    let mut replies = answered(&batch);
+    assert_eq!(compared(&replies), Ok(40));
+    assert!(compared(&replies[..replies.len() - 1]).is_err_and(|said| said.starts_with("request 39 ")));
+    replies.push(0);
+    assert!(compared(&replies).is_err_and(|said| said.starts_with("after 40 requests ")));
+    replies[0] ^= 1;
+    assert!(compared(&replies).is_err_and(|said| said.starts_with("request 0 ")));
+    let mut last = Vec::new();
+    assert!(pick(&mut &batch[..], 39, &mut last).expect("memory does not fail"));
+    assert!(batch.ends_with(&last) && !last.is_empty());
+    assert!(!pick(&mut &batch[..], 40, &mut last).expect("memory does not fail"));
 }
 
 #[test]
