@@ -1,5 +1,5 @@
 -- A byte before a text: what the text then shows.
-use Prim.Native.Nat.{ℕ, zero, suc, _-_, _≤_, _<_}
+use Prim.Native.Nat.{ℕ, zero, suc, _+_, _-_, _≤_, _<_}
 use mathlib.Core.Path.{_≡_, refl, sym, ap, _∙_}
 use mathlib.Core.List.{List, [], _∷_, _++_}
 use native.Mathlib.Omega.{arith}
@@ -30,8 +30,12 @@ one-byte w i h l =
     let e : suc (i - 1) ≡ i = omega arith in
     ap (λ n. getD w (i - 1) 0 ∷ drop n w) (sym e) ∙ sym (drop-cons w (i - 1) 0 (omega arith))
 
--- what a text shows begins within its bytes
-pub begins : {s : Text} {t : List ℕ} → Shows s t → s .from ≤ 32
-begins {s} {t} shows =
+-- what a text shows fills its bytes to the end
+pub ends : {s : Text} {t : List ℕ} → Shows s t → s .from + length t ≡ 32
+ends {s} {t} shows =
     let zeros : List ℕ = replicate (s .from) 0 in
     omega (arith, ap length (shows .bytes), shows .long, length-append zeros t, length-replicate {A = ℕ} (s .from) 0)
+
+-- and so begins within them
+pub begins : {s : Text} {t : List ℕ} → Shows s t → s .from ≤ 32
+begins shows = omega (arith, ends shows)

@@ -187,10 +187,20 @@ fn with_its_statements(rng: &mut Prng, kernel: &mut Sections) {
     }
 }
 
+/// An array record; an earlier change may have taken the last one away.
+fn any_order<'a>(rng: &mut Prng, kernel: &'a mut Sections) -> Option<&'a mut Record> {
+    let arrays = &mut kernel.arrays;
+    if arrays.is_empty() {
+        None
+    } else {
+        let array = rng.below(arrays.len());
+        Some(&mut arrays[array])
+    }
+}
+
 /// Another order of an array, within its ranges as far as that is easy.
 fn change_order(rng: &mut Prng, kernel: &mut Sections) {
-    let array = rng.below(kernel.arrays.len());
-    let record = &mut kernel.arrays[array];
+    let Some(record) = any_order(rng, kernel) else { return };
     let [_, length, first, count, step, ..] = *record;
     match rng.below(6) {
         0 => add(&mut record[3], -1),
@@ -249,7 +259,7 @@ fn uneven_branches(rng: &mut Prng, kernel: &mut Sections) {
     }
     let stream = any_array(rng, kernel, 1);
     // With one item more in the stream the fill itself is often all right.
-    longer_order(&mut kernel.arrays[stream as usize]);
+    kernel.arrays.get_mut(stream as usize).into_iter().for_each(longer_order);
     let line = [6, any_buffer(rng, kernel), stream, 0, 0, 0, 0, 0];
     let (_, place) = taken_before(kernel, other);
     kernel.stream_program.insert(place, line);
@@ -268,8 +278,9 @@ fn write_too_often(rng: &mut Prng, kernel: &mut Sections) {
 
 /// An order with one item more at its end, which no rule moves.
 fn one_item_more(rng: &mut Prng, kernel: &mut Sections) {
-    let array = rng.below(kernel.arrays.len());
-    longer_order(&mut kernel.arrays[array]);
+    if let Some(record) = any_order(rng, kernel) {
+        longer_order(record);
+    }
 }
 
 fn longer_order(record: &mut Record) {

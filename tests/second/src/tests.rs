@@ -84,6 +84,16 @@ fn accepted_changes_run_alike() {
 }
 
 #[test]
+fn kernels_without_arrays_are_changed_too() {
+    let mut rng = Prng::new(9);
+    for _ in 0..2000 {
+        let mut kernel = grow::kernel(&mut rng);
+        kernel.arrays.clear();
+        mutate::changed(&mut rng, &kernel);
+    }
+}
+
+#[test]
 fn answer_words() {
     assert_eq!(word([1, 2, 3, 4]), 0x0004_0003_0002_0001);
     assert_eq!(parts(word([11, 22, 33, 65535])), [11, 22, 33, 65535]);

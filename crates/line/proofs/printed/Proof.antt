@@ -25,7 +25,7 @@ returns c =
 
 slice-aggregate-check : tie.Need-slice-aggregate-check
 slice-aggregate-check c =
-    sym (length-take-le 49436 (c .before .before .before .args .input .now) (omega (arith, c .before .if1 .left)))
+    sym (length-take-le _ (c .before .before .before .args .input .now) (omega (arith, c .before .if1 .left)))
 
 check-requires-2 : tie.Need-check-requires-2
 check-requires-2 c κs =
