@@ -1,5 +1,6 @@
 // How fast the proved code is beside the second implementation: both are called in this one program, on the same bytes, in turns.
-// Each call reads the file, and a run clears its output, on both sides.
+// Each call reads the file, and a run clears its output, on both sides. With words SIDE CASE N it makes N calls of one side and prints nothing,
+// so that their instructions can be counted.
 #![allow(dead_code)]
 
 #[path = "../second/src/answer.rs"]
@@ -153,13 +154,58 @@ fn line(what: &str, unit: &str, amount: f64, (ours, theirs): (f64, f64)) {
     println!("{what:<34} {:>12.0} {:>12.0} {unit:<14} {:>5.2}", amount / ours, amount / theirs, theirs / ours);
 }
 
-fn main() {
-    let (smoother, longest) = (smoother(), longest());
-    let input: Vec<u8> = (0..4096).flat_map(|n: i32| (n * 7919 - 50_000).to_le_bytes()).collect();
+// ---- the cases
+
+struct Case {
+    what: &'static str,
+    unit: &'static str,
+    amount: f64,
+    call: Call,
+    file: Vec<u8>,
+    output: usize,
+}
+
+fn cases() -> [Case; 4] {
     let statements = |before: f64, body: f64| before + 1.0 + 4095.0 * (body + 1.0);
+    let case = |what, unit, amount, call, file, output| Case { what, unit, amount, call, file, output };
+    [
+        case(
+            "array run, smoother of 4,096",
+            "statements/s",
+            statements(0.0, 6.0),
+            Call::ArrayRun,
+            smoother(),
+            4 * 4095,
+        ),
+        case(
+            "stream run, smoother of 4,096",
+            "statements/s",
+            statements(1.0, 7.0),
+            Call::StreamRun,
+            smoother(),
+            4 * 4095,
+        ),
+        case("check, smoother", "files/s", 1.0, Call::Check, smoother(), 0),
+        case("check, 1,022 derivation records", "files/s", 1.0, Call::Check, longest(), 0),
+    ]
+}
+
+fn main() {
+    let input: Vec<u8> = (0..4096).flat_map(|n: i32| (n * 7919 - 50_000).to_le_bytes()).collect();
+    let words: Vec<String> = std::env::args().skip(1).collect();
+    if let [side, case, calls] = &words[..] {
+        let case = &cases()[case.parse::<usize>().expect("a case from 0 to 3")];
+        let mut output = vec![0xa5; case.output];
+        for _ in 0..calls.parse::<u32>().expect("how many calls") {
+            std::hint::black_box(match &side[..] {
+                "proved" => proved(case.call, &case.file, &input, &mut output),
+                _ => answer::call(case.call, &case.file, &input, &mut output),
+            });
+        }
+        return;
+    }
     println!("{:<34} {:>12} {:>12} {:<14} {:>5}", "", "proved", "second", "", "ratio");
-    line("array run, smoother of 4,096", "statements/s", statements(0.0, 6.0), times(Call::ArrayRun, &smoother, &input, 4 * 4095));
-    line("stream run, smoother of 4,096", "statements/s", statements(1.0, 7.0), times(Call::StreamRun, &smoother, &input, 4 * 4095));
-    line("check, smoother", "files/s", 1.0, times(Call::Check, &smoother, &[], 0));
-    line("check, 1,022 derivation records", "files/s", 1.0, times(Call::Check, &longest, &[], 0));
+    for case in cases() {
+        line(case.what, case.unit, case.amount, times(case.call, &case.file, &input, case.output));
+    }
 }
