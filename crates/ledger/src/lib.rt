@@ -36,7 +36,7 @@ pub fn fresh() -> Ledger
 // Each step takes the ledger and hands back the new one.
 impl Ledger {
     // The position of stream q is one more.
-    fn passed(self, q: usize) -> Ledger
+    pub fn passed(self, q: usize) -> Ledger
         requires { ⌜ (q < 8) × ((n : ℕ) × Bounded n self × (n ≤ 4096)) ⌝ }
         ensures { λ r. ⌜ ((a b : ℕ) → q < a → ledger a b r ≡ L.passed q (ledger a b self)) × ((n : ℕ) → Bounded n self → Bounded (n + 1) r) ⌝ }
     {
@@ -56,21 +56,6 @@ impl Ledger {
         let mut held = self.held;
         held[b] = h;
         Ledger { positions, held }
-    }
-
-    pub fn read(self, q: usize) -> Ledger
-        requires { ⌜ (q < 8) × ((n : ℕ) × Bounded n self × (n ≤ 4096)) ⌝ }
-        ensures { λ r. ⌜ ((a b : ℕ) → q < a → ledger a b r ≡ L.read-step q (ledger a b self)) × ((n : ℕ) → Bounded n self → Bounded (n + 1) r) ⌝ }
-    {
-        self.passed(q)
-    }
-
-    // A write passes its stream as a read does.
-    pub fn write(self, q: usize) -> Ledger
-        requires { ⌜ (q < 8) × ((n : ℕ) × Bounded n self × (n ≤ 4096)) ⌝ }
-        ensures { λ r. ⌜ ((a b : ℕ) → q < a → ledger a b r ≡ L.write-step q (ledger a b self)) × ((n : ℕ) → Bounded n self → Bounded (n + 1) r) ⌝ }
-    {
-        self.read(q)
     }
 
     // Buffer b holds the next index of stream q, whose order has this first index and step; then the position is one more.

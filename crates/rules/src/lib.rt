@@ -126,7 +126,7 @@ pub fn read(file: &[u8], n: usize, w: Walked, ls: Loops, a: Rec) -> Walked
     if number != 0 {
         return refused(w, number);
     }
-    took(w, 1, l.read(a.q as usize))
+    took(w, 1, l.passed(a.q as usize))
 }
 
 // Rule 6: as read, for the output.
@@ -134,12 +134,7 @@ pub fn write(file: &[u8], n: usize, w: Walked, ls: Loops, a: Rec) -> Walked
     requires { ⌜ (w .rule ≤ 4096) × (w .array ≤ 4096) × (w .stream ≤ 4096) × Arrays (now file) n × (a .q < n) × Turning ls × ((m : ℕ) × Bounded m (w .ledger) × (m ≤ 4096)) ⌝ }
     ensures { λ r. ⌜ ((K : File.Kernel) (b : ℕ) (os : List Stand.Opened) (s : File.Rec) → K .arrays ≡ arrays-of (now (file .entry)) n → Stand.loops os ≡ loops ls → ruled n b os r ≡ Check.at (stand n b os w) (Check.effect K (stand n b os w) Stand.write-rule (rec a) s)) × ((m : ℕ) → Bounded m (w .ledger) → Bounded (m + 1) (r .ledger)) ⌝ }
 {
-    let l = w.ledger;
-    let number = item(file, n, l, ls, a);
-    if number != 0 {
-        return refused(w, number);
-    }
-    took(w, 1, l.write(a.q as usize))
+    read(file, n, w, ls, a)
 }
 
 // Rule 3: the position below the count (11); the buffer then holds the next index, and the position is one more.

@@ -3,6 +3,7 @@ use Prim.Native.Nat.{_+_}
 use mathlib.Core.Path.{refl, sym, ap, subst, _∙_}
 use native.Mathlib.Omega.{arith}
 use Rattle.kernel.specs.Check as Check
+use Rattle.kernel.specs.Ledger as L
 use Rattle.ledger.specs.View.{Bounded}
 use Rattle.rules.specs.declared.Walked.{Walked}
 use Rattle.rules.specs.View.{stand, passing}
@@ -26,11 +27,11 @@ returns c =
     let n = c .before .before .before .before .before .args .n in
     ((λ K b os s k o. ruled-stop n b os w _ _ (c .before .if1 .taken) (c .refused .ensures) ∙ ap (Check.at (stand n b os w)) (sym (answers-stop _ _ (c .before .if1 .taken)) ∙ c .before .before .item .ensures K b (stand n b os w) _ k o refl)), (λ m h. subst (λ (r : Walked). Bounded (m + 1) (r .ledger)) (sym (c .refused .ensures)) (bounded-more m (w .ledger) h)))
 
-cast-read : tie.Need-cast-read
-cast-read c = search needs
+cast-passed : tie.Need-cast-passed
+cast-passed c = search needs
 
-read-requires : tie.Need-read-requires
-read-requires c κs =
+passed-requires : tie.Need-passed-requires
+passed-requires c κs =
     (few (c .before .before .before .before .before .args .file .now) (c .before .before .before .before .before .args .n) (c .before .before .before .before .before .args .a .q) (c .before .before .before .before .before .pre .4) (c .before .before .before .before .before .pre .3), c .before .before .before .before .before .pre .6)
 
 took-requires : tie.Need-took-requires
@@ -38,11 +39,11 @@ took-requires c κs =
     (c .before .before .before .before .before .before .pre .0, c .before .before .before .before .before .before .pre .1, c .before .before .before .before .before .before .pre .2, omega arith)
 
 returns-2 : tie.Need-returns-2
-unfolding Check.effect passing
+unfolding Check.effect L.read-step passing
 returns-2 c =
     let w = c .before .before .before .before .before .before .before .args .w in
     let n = c .before .before .before .before .before .before .before .args .n in
-    ((λ K b os s k o. ruled-on n b os w _ 1 (c .before .read .result) _ (c .took .ensures) (c .before .read .ensures .0 n b (c .before .before .before .before .before .before .before .pre .4)) ∙ ap (Check.at (stand n b os w)) (sym (answers-on _ _ (c .before .before .before .if1 .left)) ∙ c .before .before .before .before .item .ensures K b (stand n b os w) _ k o refl)), (λ m h. subst (λ (r : Walked). Bounded (m + 1) (r .ledger)) (sym (c .took .ensures)) (c .before .read .ensures .1 m h)))
+    ((λ K b os s k o. ruled-on n b os w _ 1 (c .before .passed .result) _ (c .took .ensures) (c .before .passed .ensures .0 n b (c .before .before .before .before .before .before .before .pre .4)) ∙ ap (Check.at (stand n b os w)) (sym (answers-on _ _ (c .before .before .before .if1 .left)) ∙ c .before .before .before .before .item .ensures K b (stand n b os w) _ k o refl)), (λ m h. subst (λ (r : Walked). Bounded (m + 1) (r .ledger)) (sym (c .took .ensures)) (c .before .passed .ensures .1 m h)))
 
 pub read-spec : {M : Type 1} → statement M
 read-spec =
@@ -51,7 +52,7 @@ read-spec =
     item-requires
     refused-requires
     returns
-    cast-read
-    read-requires
+    cast-passed
+    passed-requires
     took-requires
     returns-2)
