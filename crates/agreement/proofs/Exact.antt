@@ -16,7 +16,6 @@ use Rattle.kernel.specs.Ledger.{Held, held, position, holding, next-index, each
 use Rattle.kernel.specs.Stand.{Opened, in-for, in-if, in-else, Stand, loops, next-rule, next-array, next-stream, buffer, Rule, same-rule, read-rule, fill-rule, use-rule, move-rule, write-rule, for-rule, if-rule, else-rule, end-rule, no-rule, rule}
 use Rattle.kernel.specs.Check.{something, below-count, fits, at-else, at-end, effect, follow}
 use Rattle.kernel.specs.Rules.{BelowCount, level, rows-here, Next, TakesElse, TakesEnd, Fits, Step, same, read, fill, use-held, move, write, for, if, else, end-for, end-if, Over, Applies, does-not-fit, read-past-count, fill-past-count, write-past-count, read-elsewhere, write-elsewhere, not-held, nothing-held, rows-not-true, rows-not-kept, branches-differ, statements-left, block-open, not-counted}
-use Rattle.kernel.specs.Rules as Rules
 use Rattle.agreement.proofs.Judge.{Judge, goes, halts, judge-need, judge-then, Stops, stops-here, stops-later, need-passes}
 use Rattle.agreement.proofs.Tested.{just-eq, eq-just, something-says, nothing-says, positions-eq, eq-positions, rows-say, say-rows, FitsHere, fits-says, says-fits}
 

@@ -140,6 +140,37 @@ module _ {K : Kernel} {e e₂ : World} (tied : Tied K e e₂) (reads : Reads K) 
         related = λ a ch x y s. subst₂ (λ t u. Related K e (c .ledger) (a .counters) (run e t a x) (run e₂ u a y)) (sym e₁) (sym e₂′) (both-end s);
       }
 
+  -- the blocks of both programs behind a rule that opens and closes none
+  blocks-on : {c d : Stand} {t u t′ u′ : Block} {i j : ℕ} → (b : Blocks c t u i j) → d .opened ≡ c .opened → Long K (d .ledger)
+      → IsBlock (array-scope K) (K .array-program) t′ (b .array-open) (d .array) i → IsBlock (stream-scope K) (K .stream-program) u′ (b .stream-open) (d .stream) j
+      → Blocks d t′ u′ i j
+  blocks-on b os long array-block stream-block =
+      record {
+        array-open = b .array-open;
+        stream-open = b .stream-open;
+        array-block = array-block;
+        stream-block = stream-block;
+        levels = b .levels ∙ ap (λ os. length (loops os)) (sym os);
+        long = long;
+      }
+
+  -- what closes the block from behind a rule closes it from before the rule
+  closed-on : {n : ℕ} {c d z : Stand} {t u t′ u′ : Block} {i j : ℕ} → d .opened ≡ c .opened → (r : Closed n d z t′ u′ i j)
+      → ((a : Around) → Chosen (c .opened) a → (x y : State) → Sim K e (c .ledger) (a .counters) x y → Related K e (r .stand .ledger) (a .counters) (run e t a x) (run e₂ u a y))
+      → Closed (suc n) c z t u i j
+  closed-on os r related =
+      record {
+        left = r .left;
+        fewer = omega (arith, r .fewer);
+        stand = r .stand;
+        path = r .path;
+        opened-is = r .opened-is ∙ os;
+        array-at = r .array-at;
+        stream-at = r .stream-at;
+        long = r .long;
+        related = related;
+      }
+
   -- a rule that takes a statement of each program, and what comes after it
   closed-both : {n : ℕ} {c d z : Stand} {t u : Block} {i j : ℕ} (o o₂ : Op) → (b : Blocks c t u i j)
       → said (K .array-program) (c .array) ≡ does o → said (K .stream-program) (c .stream) ≡ does o₂
@@ -151,27 +182,13 @@ module _ {K : Kernel} {e e₂ : World} (tied : Tied K e e₂) (reads : Reads K) 
   closed-both {n} {c} {d} {z} {t} {u} {i} {j} o o₂ b h g at₁ at₂ os long keep rec =
       let fa = front-plain (array-scope K) (K .array-program) (b .array-open) (c .array) i o t (b .array-block) h in
       let fs = front-plain (stream-scope K) (K .stream-program) (b .stream-open) (c .stream) j o₂ u (b .stream-block) g in
-      let r = rec (fa .rest) (fs .rest) (record {
-        array-open = b .array-open;
-        stream-open = b .stream-open;
-        array-block = subst (λ k. IsBlock (array-scope K) (K .array-program) (fa .rest) (b .array-open) k i) (sym (at₁ ∙ add-one (c .array))) (fa .more);
-        stream-block = subst (λ k. IsBlock (stream-scope K) (K .stream-program) (fs .rest) (b .stream-open) k j) (sym (at₂ ∙ add-one (c .stream))) (fs .more);
-        levels = b .levels ∙ ap (λ os. length (loops os)) (sym os);
-        long = long;
-      }) in
-      record {
-        left = r .left;
-        fewer = omega (arith, r .fewer);
-        stand = r .stand;
-        path = r .path;
-        opened-is = r .opened-is ∙ os;
-        array-at = r .array-at;
-        stream-at = r .stream-at;
-        long = r .long;
-        related = λ a ch x y s.
-            subst₂ (λ t u. Related K e (r .stand .ledger) (a .counters) (run e t a x) (run e₂ u a y)) (sym (fa .is)) (sym (fs .is))
-            (then-both (λ x. run e (fa .rest) a x) (λ y. run e₂ (fs .rest) a y) (keep (fa .fits) (fs .fits) a ch x y s) λ x′ y′ s′. r .related a (subst (λ os. Chosen os a) (sym os) ch) x′ y′ s′);
-      }
+      let r = rec (fa .rest) (fs .rest)
+      (blocks-on b os long
+      (subst (λ k. IsBlock (array-scope K) (K .array-program) (fa .rest) (b .array-open) k i) (sym (at₁ ∙ add-one (c .array))) (fa .more))
+      (subst (λ k. IsBlock (stream-scope K) (K .stream-program) (fs .rest) (b .stream-open) k j) (sym (at₂ ∙ add-one (c .stream))) (fs .more))) in
+      closed-on os r λ a ch x y s.
+      subst₂ (λ t u. Related K e (r .stand .ledger) (a .counters) (run e t a x) (run e₂ u a y)) (sym (fa .is)) (sym (fs .is))
+      (then-both (λ x. run e (fa .rest) a x) (λ y. run e₂ (fs .rest) a y) (keep (fa .fits) (fs .fits) a ch x y s) λ x′ y′ s′. r .related a (subst (λ os. Chosen os a) (sym os) ch) x′ y′ s′)
 
   -- a rule that takes a statement of the stream program alone
   closed-stream : {n : ℕ} {c d z : Stand} {t u : Block} {i j : ℕ} (o₂ : Op) → (b : Blocks c t u i j)
@@ -183,27 +200,13 @@ module _ {K : Kernel} {e e₂ : World} (tied : Tied K e e₂) (reads : Reads K) 
   unfolding run _>>=_
   closed-stream {n} {c} {d} {z} {t} {u} {i} {j} o₂ b g at₁ at₂ os long keep rec =
       let fs = front-plain (stream-scope K) (K .stream-program) (b .stream-open) (c .stream) j o₂ u (b .stream-block) g in
-      let r = rec t (fs .rest) (record {
-        array-open = b .array-open;
-        stream-open = b .stream-open;
-        array-block = subst (λ k. IsBlock (array-scope K) (K .array-program) t (b .array-open) k i) (sym (at₁ ∙ add-zero (c .array))) (b .array-block);
-        stream-block = subst (λ k. IsBlock (stream-scope K) (K .stream-program) (fs .rest) (b .stream-open) k j) (sym (at₂ ∙ add-one (c .stream))) (fs .more);
-        levels = b .levels ∙ ap (λ os. length (loops os)) (sym os);
-        long = long;
-      }) in
-      record {
-        left = r .left;
-        fewer = omega (arith, r .fewer);
-        stand = r .stand;
-        path = r .path;
-        opened-is = r .opened-is ∙ os;
-        array-at = r .array-at;
-        stream-at = r .stream-at;
-        long = r .long;
-        related = λ a ch x y s.
-            subst (λ u. Related K e (r .stand .ledger) (a .counters) (run e t a x) (run e₂ u a y)) (sym (fs .is))
-            (then-both {r = ok x} (λ x. run e t a x) (λ y. run e₂ (fs .rest) a y) (keep (fs .fits) a ch x y s) λ x′ y′ s′. r .related a (subst (λ os. Chosen os a) (sym os) ch) x′ y′ s′);
-      }
+      let r = rec t (fs .rest)
+      (blocks-on b os long
+      (subst (λ k. IsBlock (array-scope K) (K .array-program) t (b .array-open) k i) (sym (at₁ ∙ add-zero (c .array))) (b .array-block))
+      (subst (λ k. IsBlock (stream-scope K) (K .stream-program) (fs .rest) (b .stream-open) k j) (sym (at₂ ∙ add-one (c .stream))) (fs .more))) in
+      closed-on os r λ a ch x y s.
+      subst (λ u. Related K e (r .stand .ledger) (a .counters) (run e t a x) (run e₂ u a y)) (sym (fs .is))
+      (then-both {r = ok x} (λ x. run e t a x) (λ y. run e₂ (fs .rest) a y) (keep (fs .fits) a ch x y s) λ x′ y′ s′. r .related a (subst (λ os. Chosen os a) (sym os) ch) x′ y′ s′)
 
   -- ---- an if
 

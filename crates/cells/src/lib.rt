@@ -6,7 +6,6 @@ ghost use mathlib.Core.Bool.{cond};
 ghost use mathlib.Core.List.{List};
 ghost use Prim.Native.Nat.{ℕ, _^_, _<_};
 ghost use lib.IntN.{natAbs};
-ghost use lib.ListN.{getD};
 ghost use Rattle.numbers.specs.Words.{words, inside};
 ghost use Rattle.forms.specs.Form as F;
 ghost use Rattle.forms.specs.Code.{form, Within};
@@ -15,14 +14,6 @@ ghost use Rattle.kernel.specs.Machine as Machine;
 ghost use Rattle.registers.specs.View.{state, stopped};
 ghost use Rattle.loops.specs.View.{around, Counters};
 ghost use Rattle.cells.specs.View.{world, Whole};
-
-// An entry of a table.
-fn entry(table: &[u32; 8], q: usize) -> u32
-    requires { ⌜ q < 8 ⌝ }
-    ensures { λ r. ⌜ r ≡ getD (now (table .entry)) q 0 ⌝ }
-{
-    table[q]
-}
 
 // The cell that a form names where it is one of n, else n.
 fn cell_number(f: Form, a: Around, n: u32) -> u32
@@ -61,12 +52,12 @@ pub fn load(
     requires { ⌜ (p < 48) × (q < 8) × Within (2 ^ 50) (2 ^ 33) f × Counters a ⌝ }
     ensures { λ r. ⌜ ((ps ws : List ℕ) (n : ℕ) → stopped r n (state (now (registers .exit)) ps ws) ≡ Machine.step (world (now (sizes .entry)) (now (bases .entry)) (words (now (input .entry)))) n (File.load p q (form f)) (around a) (state (now (registers .entry)) ps ws)) ⌝ }
 {
-    let n = entry(sizes, q);
+    let n = numbers::entry(sizes, q);
     let i = cell_number(f, a, n);
     if i >= n {
         return 33;
     }
-    let b = entry(bases, q);
+    let b = numbers::entry(bases, q);
     registers[p] = numbers::word(input, (b as usize) + (i as usize)) as u64;
     0
 }
@@ -89,12 +80,12 @@ pub fn store(
     if v >= registers::UNSET {
         return 31;
     }
-    let n = entry(sizes, q);
+    let n = numbers::entry(sizes, q);
     let j = cell_number(f, a, n);
     if j >= n {
         return 33;
     }
-    let b = entry(bases, q);
+    let b = numbers::entry(bases, q);
     numbers::put_word(output, (b as usize) + (j as usize), v as u32);
     0
 }
@@ -112,12 +103,12 @@ pub fn read(
     requires { ⌜ (p < 48) × (q < 8) ⌝ }
     ensures { λ r. ⌜ ((c : Machine.Around) (ws : List ℕ) (n : ℕ) → stopped r n (state (now (registers .exit)) (now (places .exit)) ws) ≡ Machine.step (world (now (sizes .entry)) (now (bases .entry)) (words (now (input .entry)))) n (File.read p q) c (state (now (registers .entry)) (now (places .entry)) ws)) ⌝ }
 {
-    let next = entry(places, q);
-    let n = entry(sizes, q);
+    let next = numbers::entry(places, q);
+    let n = numbers::entry(sizes, q);
     if next >= n {
         return 34;
     }
-    let b = entry(bases, q);
+    let b = numbers::entry(bases, q);
     registers[p] = numbers::word(input, (b as usize) + (next as usize)) as u64;
     places[q] = next + 1;
     0
@@ -140,12 +131,12 @@ pub fn write(
     if w >= registers::UNSET {
         return 31;
     }
-    let place = entry(places, q);
-    let n = entry(sizes, q);
+    let place = numbers::entry(places, q);
+    let n = numbers::entry(sizes, q);
     if place >= n {
         return 35;
     }
-    let b = entry(bases, q);
+    let b = numbers::entry(bases, q);
     numbers::put_word(output, (b as usize) + (place as usize), w as u32);
     places[q] = place + 1;
     0

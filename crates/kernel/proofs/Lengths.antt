@@ -5,10 +5,9 @@ use Prim.Native.Nat.{ℕ, _+_, _*_, _/_}
 use native.Mathlib.Omega.{arith}
 use lib.ListN.{length, length-drop}
 use borrow.Author.Tests.{eqb-true, leb-true}
-use Rattle.numbers.specs.Result.{Result}
 use Rattle.numbers.specs.Words.{words}
 use Rattle.numbers.proofs.Areas.{words-length}
-use Rattle.numbers.proofs.Results.{On, on-ok, on-stop, on-need, on-then, on-any}
+use Rattle.numbers.proofs.Results.{On, on-ok, on-stop, on-need, on-then, whatever}
 use Rattle.kernel.specs.File.{Rec, Kernel}
 use Rattle.kernel.specs.Reading.{count, section, sections, read-file}
 use Rattle.kernel.proofs.Readable.{length-records}
@@ -48,6 +47,3 @@ file-length bytes =
     on-then _ (sections-length (words bytes)) λ K k.
     on-then _ whatever λ t _. on-then _ whatever λ t _. on-then _ whatever λ t _. on-then _ whatever λ t _.
     on-ok (k ∙ words-length bytes)
-  where
-    whatever : {E A : Type 0} {m : Result E A} → On (λ a. Unit {0}) m
-    whatever = on-any (λ a. tt)

@@ -40,6 +40,10 @@ pub on-any {ℓ} : {E A : Type 0} {P : A → Type ℓ} {m : Result E A} → ((a 
 on-any {m = ok a} h = on-ok (h a)
 on-any {m = stop e} h = on-stop
 
+-- nothing asked of the value
+pub whatever : {E A : Type 0} {m : Result E A} → On (λ a. Unit {0}) m
+whatever = on-any (λ a. tt)
+
 -- of the value that it is
 pub on-at {ℓ} : {E A : Type 0} {P : A → Type ℓ} {m : Result E A} {a : A} → On P m → m ≡ ok a → P a
 on-at {P} h e = subst (λ r. On P r) e h .on

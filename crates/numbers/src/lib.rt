@@ -1,7 +1,7 @@
 // 32-bit words: a byte area as a row of them, and what registers do with them.
 ghost use mathlib.Core.Path.{_≡_};
 ghost use Prim.Native.Nat.{_+_, _*_, _<_, _≤_};
-ghost use lib.ListN.{length};
+ghost use lib.ListN.{length, getD};
 ghost use Rattle.numbers.specs.Words as Words;
 ghost use Rattle.numbers.specs.Areas as Areas;
 
@@ -46,6 +46,14 @@ pub fn put_word(area: &mut [u8], i: usize, w: u32)
         area[a + 2] = (w / 65536 % 256) as u8;
         area[a + 3] = (w / 16777216 % 256) as u8;
     }
+}
+
+// An entry of a table with one for each array.
+pub fn entry(table: &[u32; 8], q: usize) -> u32
+    requires { ⌜ q < 8 ⌝ }
+    ensures { λ r. ⌜ r ≡ getD (now (table .entry)) q 0 ⌝ }
+{
+    table[q]
 }
 
 // ---- words and numbers
