@@ -1,16 +1,15 @@
 -- The walk from the beginning of the derivation to its end, and the answer that it comes to.
-use Prim.Native.Nat.{ℕ, _+_, _*_, _≤_, _<_, _^_}
-use mathlib.Core.Path.{_≡_, refl, sym, ap, subst, _∙_}
-use mathlib.Core.Bool.{Bool, true, false, not, _&&_}
+use Prim.Native.Nat.{ℕ, _≤_, _<_, _^_}
+use mathlib.Core.Path.{_≡_, sym, ap, subst, _∙_}
+use mathlib.Core.Bool.{Bool, true, false, _&&_}
 use mathlib.Core.List.{List, [], _∷_}
 use native.Mathlib.Omega.{arith}
 use lib.Dec.{leb}
 use lib.ListN.{length, drop, take}
 use borrow.Author.Tests.{le-leb}
-use Rattle.numbers.specs.Result.{Result, ok, stop, _>>=_, need, because}
+use Rattle.numbers.specs.Result.{Result, stop, _>>=_, need, because}
 use Rattle.forms.specs.declared.Loops.{Loops}
 use Rattle.forms.specs.Code.{loop, loops, Turning}
-use Rattle.kernel.specs.File.{Kernel}
 use Rattle.kernel.specs.Reading.{array-scope, open-loops}
 use Rattle.kernel.specs.Ledger as L
 use Rattle.kernel.specs.Stand as S
@@ -23,8 +22,9 @@ use Rattle.sections.specs.declared.Counts.{Counts}
 use Rattle.ledger.specs.View.{ledger, Bounded}
 use Rattle.rules.specs.declared.Walked.{Walked}
 use Rattle.rules.specs.View.{stand}
-use Rattle.places.specs.View.{ReadAs, Stood}
-use Rattle.places.proofs.Read.{K, reads, few, arrays-count, array-count, stream-count, rule-count, buffers-are}
+use Rattle.ends.specs.Parts.{ReadAs}
+use Rattle.places.specs.View.{Stood}
+use Rattle.ends.proofs.Parts.{K, reads, few, arrays-count, array-count, stream-count, rule-count, buffers-are}
 use Rattle.walk.specs.View.{Goes, Opens, Rests}
 use Rattle.walk.proofs.Walks.{goes-on, goes-nowhere, comes-over}
 use Rattle.checking.specs.declared.Checked.the-variants.{Accepted, Refused}

@@ -1,5 +1,5 @@
 -- The answer of the code, seen as what the definition gives; and where the walk begins.
-use Prim.Native.Nat.{ℕ, _≤_}
+use Prim.Native.Nat.{_≤_}
 use mathlib.Core.Path.{_≡_}
 use lib.ListN.{length}
 use Rattle.kernel.specs.File.{Kernel}

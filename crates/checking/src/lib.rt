@@ -16,7 +16,7 @@ ghost use Rattle.kernel.specs.Check as Check;
 ghost use Rattle.kernel.specs.Answers as Answers;
 ghost use Rattle.sections.specs.View.{kernel};
 ghost use Rattle.memory.specs.View.{arrays-of, Arrays};
-ghost use Rattle.places.specs.View.{ReadAs};
+ghost use Rattle.ends.specs.Parts.{ReadAs};
 ghost use Rattle.checking.specs.declared.Checked.the-variants.{Refused};
 ghost use Rattle.checking.specs.View.{answer, Fresh};
 ghost use Rattle.checking.specs.Promises.{Checks};

@@ -1,10 +1,5 @@
 -- Demand 2 of the check: its answer is accepted exactly where the derivation follows the rules, else it names the first bad rule.
-use mathlib.Core.Path.{_≡_, sym, ap, _∙_}
-use mathlib.Core.List.{List}
-use Prim.Native.Nat.{ℕ}
-use Rattle.numbers.specs.Result.{ok}
-use Rattle.kernel.specs.File.{Kernel}
-use Rattle.kernel.specs.Reading.{read-file}
+use mathlib.Core.Path.{sym, ap, _∙_}
 use Rattle.agreement.proofs.Walks.{first-refusal, exactness}
 use Rattle.checking.specs.View.{answer}
 use Rattle.checking.specs.declared.Checked.the-variants.{Accepted}

@@ -6,7 +6,7 @@ use mathlib.Core.List.{List}
 use lib.Dec.{eqb}
 use lib.ListN.{length}
 use Rattle.numbers.specs.Result.{Result, ok, stop, _>>=_, need}
-use Rattle.numbers.specs.Words.{words, bytes}
+use Rattle.numbers.specs.Words.{words}
 use Rattle.kernel.specs.File.{Kernel, input, output, length-of, count-of}
 use Rattle.kernel.specs.Reading.{Fault, fault, read-file}
 use Rattle.kernel.specs.Memory as Memory
@@ -16,7 +16,7 @@ use Rattle.runs.specs.declared.Ran.the-variants as Ran
 use Rattle.runs.specs.declared.Done.{Done}
 use Rattle.runs.specs.declared.Done.the-variants as Done
 use Rattle.runs.specs.View.{told, answer, finished, done}
-use Rattle.runs.specs.Promises.{Runs, Moves, ArrayRun, StreamRun, LayOut, PutBack}
+use Rattle.runs.specs.Promises.{Runs, Moves}
 use Rattle.runs.proofs.One.{one-run, one-move}
 use Rattle.demands.specs.Demands.{RunRefused, MoveRefused, Keeps, Demand1}
 

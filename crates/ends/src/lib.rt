@@ -1,14 +1,50 @@
-// Where a block ends, and the record behind a statement: found by looking through the records.
+// The parts of a file that reads; where a block of a program ends, and the record behind a statement: found by looking through the records.
+use sections::Counts;
 ghost use mathlib.Core.Path.{_≡_};
 ghost use Prim.Native.Nat.{_≤_, _<_};
+ghost use Rattle.ends.specs.Parts.{Few, array-part, stream-part, derivation-part};
 ghost use Rattle.ends.specs.View as View;
 ghost use Rattle.ends.specs.View.{program, Lies, tree-at, stop-of, behind, Inside, Begins};
 
-// A program in the file: the place of its first record, and how many there are.
+// ---- the parts of the file
+
+// The place of a first record, and how many there are.
 pub struct Part {
     pub at: usize,
     pub count: usize,
 }
+
+pub fn array_part(c: Counts) -> Part
+    requires { ⌜ Few c ⌝ }
+    ensures { λ r. ⌜ r ≡ array-part c ⌝ }
+{
+    Part {
+        at: 4 + 8 * c.a,
+        count: c.s,
+    }
+}
+
+pub fn stream_part(c: Counts) -> Part
+    requires { ⌜ Few c ⌝ }
+    ensures { λ r. ⌜ r ≡ stream-part c ⌝ }
+{
+    Part {
+        at: 5 + 8 * (c.a + c.s),
+        count: c.t,
+    }
+}
+
+pub fn derivation_part(c: Counts) -> Part
+    requires { ⌜ Few c ⌝ }
+    ensures { λ r. ⌜ r ≡ derivation-part c ⌝ }
+{
+    Part {
+        at: 6 + 8 * (c.a + c.s + c.t),
+        count: c.d,
+    }
+}
+
+// ---- where a block ends
 
 // The elses and ends to pass over after a record of this code.
 fn passed(depth: usize, code: u32) -> usize

@@ -35,9 +35,10 @@ use Rattle.whole.specs.View.{Stated}
 use Rattle.rows.specs.View.{SmallForms}
 use Rattle.rules.specs.declared.Walked.{Walked}
 use Rattle.rules.specs.View.{stand, ruled}
-use Rattle.places.specs.View.{ReadAs, Stood, Onward, derivation-part, array-there, stream-there, loop-there, Takes, ReadsOn, Enters}
-use Rattle.places.proofs.Read.{reads, arrays-count, buffers-are, array-count, rule-count, derivation-is}
-use Rattle.opening.proofs.Taking.{Fitting, Effect, Comes}
+use Rattle.ends.specs.Parts.{ReadAs, derivation-part}
+use Rattle.places.specs.View.{Stood, Onward, array-there, stream-there, loop-there, Takes, ReadsOn, Enters}
+use Rattle.ends.proofs.Parts.{reads, arrays-count, buffers-are, array-count, rule-count, derivation-is}
+use Rattle.places.proofs.Comes.{Fitting, Effect, Comes}
 use Rattle.opening.proofs.Going.{code-of}
 
 -- ---- the loops around

@@ -23,7 +23,8 @@ use Rattle.ledger.specs.declared.Ledger.{Ledger}
 use Rattle.ledger.specs.View.{Bounded}
 use Rattle.rules.specs.declared.Walked.{Walked}
 use Rattle.places.specs.View.{Stood, Onward, ReadsOn, array-there, stream-there}
-use Rattle.opening.proofs.Taking.{past, Fitting}
+use Rattle.places.proofs.Comes.{Fitting}
+use Rattle.opening.proofs.Taking.{past}
 
 -- ---- where the derivation stands
 

@@ -1,4 +1,4 @@
--- What the rule at a place comes to: refused with 10 where it does not fit or does not close the innermost block, else its effect.
+-- How the code takes the rule at a place: refused with 10 where it does not fit or does not close the innermost block, else by its effect.
 use Prim.Native.Nat.{ℕ, _+_, _≤_}
 use mathlib.Core.Path.{_≡_, refl, sym, ap, _∙_}
 use mathlib.Core.Bool.{Bool, true, false, _&&_, _||_}
@@ -8,23 +8,21 @@ use native.Mathlib.Omega.{arith}
 use lib.Dec.{eqb}
 use lib.ListN.{length}
 use borrow.Author.Tests.{eqb-true, eq-eqb}
-use Rattle.numbers.specs.Result.{Result, ok, stop, _>>=_, need}
+use Rattle.numbers.specs.Result.{ok, stop, _>>=_, need}
 use Rattle.numbers.proofs.Tests.{and-left, and-right, or-cases}
 use Rattle.forms.specs.Form as F
-use Rattle.kernel.specs.File.{Kernel}
 use Rattle.kernel.specs.Ledger as L
 use Rattle.kernel.specs.Stand as Stand
 use Rattle.kernel.specs.Stand.{Opened, in-for, in-if, in-else, went, rule}
 use Rattle.kernel.specs.Check as Check
-use Rattle.kernel.specs.Check.{take-rule}
 use Rattle.sections.specs.declared.Counts.{Counts}
-use Rattle.sections.specs.View.{kernel}
 use Rattle.ledger.specs.declared.Ledger.{Ledger}
 use Rattle.ledger.specs.View.{ledger}
 use Rattle.rules.specs.declared.Walked.{Walked}
 use Rattle.rules.specs.View.{stand}
-use Rattle.rules.proofs.Effects.{need-fails, need-holds, ruled-stop, ruled-on}
-use Rattle.places.specs.View.{rule-code, array-there, stream-there, Takes, Closing}
+use Rattle.rules.proofs.Effects.{ruled-stop, ruled-on}
+use Rattle.places.specs.View.{rule-code, Takes, Closing}
+use Rattle.places.proofs.Comes.{here, Fitting, Effect, Comes, unfit, fit, misplaced}
 
 -- ---- what the code answers
 
@@ -58,79 +56,41 @@ and-fails u e = sym (ap (λ t. t && u) e)
 pub and-holds : {t u r : Bool} → t ≡ true → r ≡ u → r ≡ t && u
 and-holds {t} {u} e f = f ∙ sym (ap (λ t. t && u) e)
 
--- whether a test holds or not
-need-either : {A : Type 0} (number : ℕ) (t : Bool) (x : Result ℕ A) → x ≡ stop number → (need number t >>= λ _. x) ≡ stop number
-unfolding need _>>=_
-need-either number true x e = e
-need-either number false x e = refl
-
--- ---- the rule at w, with os open
+-- ---- the code takes it so
 
 module _ (file : List ℕ) (c : Counts) (os : List Opened) (w : Walked) where
-  abbrev K : Kernel
-  K = kernel file c
-
-  abbrev here : Stand.Stand
-  here = stand (c .a) (c .b) os w
-
-  abbrev pub Fitting : ℕ → Bool
-  Fitting code = Check.fits K here (rule code) (array-there file c w) (stream-there file c w)
-
-  abbrev pub Effect : ℕ → Result ℕ Stand.Stand
-  Effect code = Check.effect K here (rule code) (array-there file c w) (stream-there file c w)
-
-  -- the definition takes it so
-  abbrev pub Comes : Result ℕ Stand.Stand → Type 0
-  Comes x = take-rule K here ≡ Check.at here x
-
-  by-code : (code : ℕ) → rule-code file c w ≡ code → Comes (need 10 (Fitting code) >>= λ _. Effect code)
-  unfolding Check.take-rule Check.follow Stand.next-rule Stand.next-array Stand.next-stream
-  by-code code e = ap (λ n. Check.at here (Check.follow K here (rule n) (array-there file c w) (stream-there file c w))) e
-
-  pub unfit : (code : ℕ) → rule-code file c w ≡ code → Fitting code ≡ false → Comes (stop 10)
-  unfit code e f = by-code code e ∙ ap (Check.at here) (need-fails 10 _ _ f)
-
-  pub fit : (code : ℕ) → rule-code file c w ≡ code → Fitting code ≡ true → Comes (Effect code)
-  fit code e f = by-code code e ∙ ap (Check.at here) (need-holds 10 _ _ f)
-
-  -- refused with 10 whether it fits or not
-  misplaced : (code : ℕ) → rule-code file c w ≡ code → Effect code ≡ stop 10 → Comes (stop 10)
-  misplaced code e f = by-code code e ∙ ap (Check.at here) (need-either 10 (Fitting code) (Effect code) f)
-
-  -- ---- the code takes it so
-
   module _ (os′ : List Opened) (r : Walked) where
-    pub stopped : (number : ℕ) → 1 ≤ number → r ≡ refusal w number → Comes (stop number) → Takes file c os w os′ r
+    pub stopped : (number : ℕ) → 1 ≤ number → r ≡ refusal w number → Comes file c os w (stop number) → Takes file c os w os′ r
     unfolding Check.at
     stopped number z e t = ruled-stop (c .a) (c .b) os′ w r number (λ q. omega (arith, q, z)) e ∙ sym t
 
-    pub went-on : (l : Ledger) (M : L.Ledger) → r ≡ past w l → ledger (c .a) (c .b) l ≡ M → Comes (ok (went 1 1 1 os′ M here)) → Takes file c os w os′ r
+    pub went-on : (l : Ledger) (M : L.Ledger) → r ≡ past w l → ledger (c .a) (c .b) l ≡ M → Comes file c os w (ok (went 1 1 1 os′ M (here file c os w))) → Takes file c os w os′ r
     unfolding Check.at went
     went-on l M e f t = ruled-on (c .a) (c .b) os′ w r 1 l M e f ∙ sym t
 
   -- ---- an else or an end
 
   abbrev pub Closed : ℕ → Bool
-  Closed code = eqb (rule-code file c w) code && Fitting code
+  Closed code = eqb (rule-code file c w) code && Fitting file c os w code
 
   pub closed-code : (code : ℕ) → Closed code ≡ true → rule-code file c w ≡ code
-  closed-code code h = eqb-true (rule-code file c w) code (and-left _ (Fitting code) h)
+  closed-code code h = eqb-true (rule-code file c w) code (and-left _ (Fitting file c os w code) h)
 
-  pub closed-fits : (code : ℕ) → Closed code ≡ true → Fitting code ≡ true
-  closed-fits code h = and-right (eqb (rule-code file c w) code) (Fitting code) h
+  pub closed-fits : (code : ℕ) → Closed code ≡ true → Fitting file c os w code ≡ true
+  closed-fits code h = and-right (eqb (rule-code file c w) code) (Fitting file c os w code) h
 
-  pub closes : (code : ℕ) → Closed code ≡ true → Comes (Effect code)
-  closes code h = fit code (closed-code code h) (closed-fits code h)
+  pub closes : (code : ℕ) → Closed code ≡ true → Comes file c os w (Effect file c os w code)
+  closes code h = fit file c os w code (closed-code code h) (closed-fits code h)
 
-  not-closed : (code : ℕ) → rule-code file c w ≡ code → Closed code ≡ false → Comes (stop 10)
-  not-closed code e h = unfit code e (sym (ap (λ t. t && Fitting code) (eq-eqb (rule-code file c w) code e)) ∙ h)
+  not-closed : (code : ℕ) → rule-code file c w ≡ code → Closed code ≡ false → Comes file c os w (stop 10)
+  not-closed code e h = unfit file c os w code e (sym (ap (λ t. t && Fitting file c os w code) (eq-eqb (rule-code file c w) code e)) ∙ h)
 
-  pub not-else : Closing (rule-code file c w) → Effect 10 ≡ stop 10 → Closed 9 ≡ false → Comes (stop 10)
+  pub not-else : Closing (rule-code file c w) → Effect file c os w 10 ≡ stop 10 → Closed 9 ≡ false → Comes file c os w (stop 10)
   not-else (inl e) f h = not-closed 9 e h
-  not-else (inr e) f h = misplaced 10 e f
+  not-else (inr e) f h = misplaced file c os w 10 e f
 
-  pub not-end : Closing (rule-code file c w) → Effect 9 ≡ stop 10 → Closed 10 ≡ false → Comes (stop 10)
-  not-end (inl e) f h = misplaced 9 e f
+  pub not-end : Closing (rule-code file c w) → Effect file c os w 9 ≡ stop 10 → Closed 10 ≡ false → Comes file c os w (stop 10)
+  not-end (inl e) f h = misplaced file c os w 9 e f
   not-end (inr e) f h = not-closed 10 e h
 
 -- ---- by the innermost block

@@ -18,7 +18,8 @@ ghost use Rattle.kernel.proofs.Guarantees.{LoopFits};
 ghost use Rattle.sections.specs.View.{kernel};
 ghost use Rattle.ledger.specs.View.{ledger, Bounded};
 ghost use Rattle.whole.specs.View.{Stated};
-ghost use Rattle.places.specs.View.{ReadAs, Stood, Onward, rule-code, array-there, stream-there, loop-there, Takes, Closing, ReadsOn, Enters};
+ghost use Rattle.ends.specs.Parts.{ReadAs};
+ghost use Rattle.places.specs.View.{Stood, Onward, rule-code, array-there, stream-there, loop-there, Takes, Closing, ReadsOn, Enters};
 
 // ---- a for
 
@@ -30,7 +31,7 @@ pub fn enter_for(file: &[u8], c: Counts, w: Walked, ls: Loops) -> Walked
 {
     let a = places::array_next(file, c, w);
     let s = places::stream_next(file, c, w);
-    let part = places::derivation_part(c);
+    let part = ends::derivation_part(c);
     if !fitting::for_fits(file, part, w.rule, ls.count, c.a, c.b, a, s) {
         return rules::refused(w, 10);
     }

@@ -7,8 +7,9 @@ use Rattle.ledger.specs.declared.Ledger.{Ledger}
 use Rattle.ledger.specs.View.{Bounded}
 use Rattle.ledger.proofs.Bounds.{within-wider}
 use Rattle.rules.specs.declared.Walked.{Walked}
-use Rattle.places.specs.View.{ReadAs, Stood}
-use Rattle.places.proofs.Read.{few}
+use Rattle.ends.specs.Parts.{ReadAs}
+use Rattle.places.specs.View.{Stood}
+use Rattle.ends.proofs.Parts.{few}
 
 module _ (file : List ℕ) (c : Counts) (w : Walked) (e : ReadAs file c) where
   pub near : Stood c w → (w .rule ≤ 4096) × (w .array ≤ 4096) × (w .stream ≤ 4096)

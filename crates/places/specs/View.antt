@@ -1,44 +1,20 @@
 -- A file that reads, by its counts: its parts, where the code of the check may stand in it, and how the definition's walk is seen there.
-use Prim.Native.Nat.{ℕ, _+_, _*_, _≤_, _<_}
+use Prim.Native.Nat.{ℕ, _≤_, _<_}
 use mathlib.Core.Path.{_≡_}
 use mathlib.Core.Logic.{_⊎_}
 use mathlib.Core.List.{List, _∷_}
 use lib.ListN.{getD, drop}
-use Rattle.numbers.specs.Result.{ok}
 use Rattle.forms.specs.Form.{Loop}
 use Rattle.kernel.specs.File.{Rec, nothing, loop-of}
-use Rattle.kernel.specs.Reading.{array-scope, Open, in-for, open-loops, read-file}
+use Rattle.kernel.specs.Reading.{array-scope, Open, in-for, open-loops}
 use Rattle.kernel.specs.Stand.{Opened}
 use Rattle.kernel.specs.Check.{take-rule}
 use Rattle.kernel.proofs.Guarantees.{LoopFits, Nested}
 use Rattle.sections.specs.declared.Counts.{Counts}
 use Rattle.sections.specs.View.{kernel}
-use Rattle.ends.specs.declared.Part.{Part}
 use Rattle.ledger.specs.View.{Bounded}
 use Rattle.rules.specs.declared.Walked.{Walked}
 use Rattle.rules.specs.View.{stand, ruled}
-
--- the file reads, with these counts
-abbrev pub ReadAs : (file : List ℕ) → Counts → Type 0
-ReadAs file c = read-file file ≡ ok (kernel file c)
-
--- counts in their ranges
-pub record Few (c : Counts) : Type 0 where
-  pub registers : c .r ≤ 32
-  pub buffers : c .b ≤ 16
-  pub arrays : c .a ≤ 8
-  pub array-statements : c .s ≤ 256
-  pub stream-statements : c .t ≤ 256
-  pub rules : c .d ≤ 1024
-
-abbrev pub array-part : Counts → Part
-array-part c = record { at = 4 + 8 * c .a; count = c .s }
-
-abbrev pub stream-part : Counts → Part
-stream-part c = record { at = 5 + 8 * (c .a + c .s); count = c .t }
-
-abbrev pub derivation-part : Counts → Part
-derivation-part c = record { at = 6 + 8 * (c .a + c .s + c .t); count = c .d }
 
 -- ---- where the check stands
 

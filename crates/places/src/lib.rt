@@ -1,4 +1,4 @@
-// What stands at a place of a file that reads: its sections, the next rule and the next statements; and the loops around.
+// What stands at a place of a file that reads: a record, the next rule and the next statements; and the loops around.
 use ends::Part;
 use forms::Loop;
 use forms::Loops;
@@ -15,40 +15,11 @@ ghost use Rattle.kernel.specs.Stand as Stand;
 ghost use Rattle.kernel.specs.Check as Check;
 ghost use Rattle.sections.specs.View.{rec, kernel};
 ghost use Rattle.ends.specs.View.{program};
+ghost use Rattle.ends.specs.Parts.{ReadAs};
 ghost use Rattle.fitting.specs.View.{Derived};
-ghost use Rattle.places.specs.View.{ReadAs, Few, array-part, stream-part, derivation-part, rule-code, array-there, stream-there};
+ghost use Rattle.places.specs.View.{rule-code, array-there, stream-there};
 
-// ---- the parts of the file
-
-pub fn array_part(c: Counts) -> Part
-    requires { ⌜ Few c ⌝ }
-    ensures { λ r. ⌜ r ≡ array-part c ⌝ }
-{
-    Part {
-        at: 4 + 8 * c.a,
-        count: c.s,
-    }
-}
-
-pub fn stream_part(c: Counts) -> Part
-    requires { ⌜ Few c ⌝ }
-    ensures { λ r. ⌜ r ≡ stream-part c ⌝ }
-{
-    Part {
-        at: 5 + 8 * (c.a + c.s),
-        count: c.t,
-    }
-}
-
-pub fn derivation_part(c: Counts) -> Part
-    requires { ⌜ Few c ⌝ }
-    ensures { λ r. ⌜ r ≡ derivation-part c ⌝ }
-{
-    Part {
-        at: 6 + 8 * (c.a + c.s + c.t),
-        count: c.d,
-    }
-}
+// ---- records
 
 // Record i of a part; all zeros where there is none.
 pub fn record_at(file: &[u8], part: Part, i: usize) -> Rec
@@ -76,14 +47,14 @@ pub fn array_next(file: &[u8], c: Counts, w: Walked) -> Rec
     requires { ⌜ ReadAs (now file) c ⌝ }
     ensures { λ r. ⌜ rec r ≡ array-there (now (file .entry)) c w ⌝ }
 {
-    record_at(file, array_part(c), w.array)
+    record_at(file, ends::array_part(c), w.array)
 }
 
 pub fn stream_next(file: &[u8], c: Counts, w: Walked) -> Rec
     requires { ⌜ ReadAs (now file) c ⌝ }
     ensures { λ r. ⌜ rec r ≡ stream-there (now (file .entry)) c w ⌝ }
 {
-    record_at(file, stream_part(c), w.stream)
+    record_at(file, ends::stream_part(c), w.stream)
 }
 
 // Whether the rule of this code, no for, fits the next statements.
@@ -101,7 +72,7 @@ pub fn code_there(file: &[u8], c: Counts, w: Walked) -> u32
     requires { ⌜ ReadAs (now file) c × (w .rule < c .d) ⌝ }
     ensures { λ r. ⌜ r ≡ rule-code (now (file .entry)) c w ⌝ }
 {
-    let part = derivation_part(c);
+    let part = ends::derivation_part(c);
     numbers::word(file, part.at + 8 * w.rule)
 }
 

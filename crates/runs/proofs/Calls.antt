@@ -14,14 +14,15 @@ use Rattle.kernel.specs.Memory as Memory
 use Rattle.kernel.specs.Memory.{total, left, on-areas}
 use Rattle.sections.specs.declared.Counts.{Counts}
 use Rattle.sections.specs.View.{kernel, array-program-at, stream-program-at}
+use Rattle.ends.specs.declared.Part.{Part}
 use Rattle.ends.specs.View.{program}
+use Rattle.ends.specs.Parts.{array-part, stream-part}
 use Rattle.memory.specs.View.{arrays-of, field-of}
 use Rattle.runs.specs.declared.Ran.{Ran}
 use Rattle.runs.specs.declared.Ran.the-variants.{Refused}
 use Rattle.runs.specs.declared.Done.the-variants as As
 use Rattle.runs.specs.View.{told, answer, finished, done, on-kernel, program-ran}
 use Rattle.runs.specs.Promises.{Runs, Moves}
-use Rattle.runs.proofs.Ready.{array-part, stream-part}
 
 -- ---- lengths
 
@@ -78,10 +79,16 @@ module _ {A : Type 0} (from to : Kernel → ℕ) (work : Kernel → List ℕ →
 
 -- the two runs, of a file that reads
 module _ (file : List ℕ) (c : Counts) (e : read-file file ≡ ok (kernel file c)) (first second : List ℕ) where
-  pub array-call : on-kernel (total input (field-of 1)) (total output (field-of 1)) (program-ran 1 (program file (array-part c))) (kernel file c) first second ≡ Memory.array-run file first second
+  pub array-call : (part : Part) → part ≡ array-part c
+      → on-kernel (total input (field-of 1)) (total output (field-of 1)) (program-ran 1 (program file part)) (kernel file c) first second ≡ Memory.array-run file first second
   unfolding on-kernel field-of numbers program-ran kernel array-program-at Memory.array-run Memory.array-ran
-  array-call = sym (call-reads (total input length-of) (total output length-of) Memory.array-ran file first second (kernel file c) e)
+  array-call part p =
+      ap (λ part. on-kernel (total input (field-of 1)) (total output (field-of 1)) (program-ran 1 (program file part)) (kernel file c) first second) p
+      ∙ sym (call-reads (total input length-of) (total output length-of) Memory.array-ran file first second (kernel file c) e)
 
-  pub stream-call : on-kernel (total input (field-of 3)) (total output (field-of 3)) (program-ran 3 (program file (stream-part c))) (kernel file c) first second ≡ Memory.stream-run file first second
+  pub stream-call : (part : Part) → part ≡ stream-part c
+      → on-kernel (total input (field-of 3)) (total output (field-of 3)) (program-ran 3 (program file part)) (kernel file c) first second ≡ Memory.stream-run file first second
   unfolding on-kernel field-of numbers program-ran kernel stream-program-at Memory.stream-run Memory.stream-ran
-  stream-call = sym (call-reads (total input count-of) (total output count-of) Memory.stream-ran file first second (kernel file c) e)
+  stream-call part p =
+      ap (λ part. on-kernel (total input (field-of 3)) (total output (field-of 3)) (program-ran 3 (program file part)) (kernel file c) first second) p
+      ∙ sym (call-reads (total input count-of) (total output count-of) Memory.stream-ran file first second (kernel file c) e)

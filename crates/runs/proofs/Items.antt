@@ -15,7 +15,7 @@ use borrow.Author.Tests.{ltb-true}
 use Rattle.numbers.specs.Result.{Result, ok, stop, _>>=_, because}
 use Rattle.numbers.specs.Lists.{sum}
 use Rattle.numbers.specs.Words.{inside}
-use Rattle.numbers.proofs.Results.{On, on-ok, on-need, on-then, on-any}
+use Rattle.numbers.proofs.Results.{On, on-ok, on-need, on-then, whatever}
 use Rattle.kernel.specs.File.{Rec, nothing, on, only, Op, set, copy, work, load, store, read, write}
 use Rattle.kernel.specs.Blocks.{Block, stops, plain, loop, branch}
 use Rattle.kernel.specs.Machine.{World, State, Around, Stuck, stuck, get, put, place, advance, cell, keep, cell-number, perform, step, choose, in-pass, repeat, run}
@@ -40,9 +40,6 @@ leaves-because : {P : State → Type 0} (n : ℕ) (s : State) {m : Result ℕ St
 unfolding because
 leaves-because n s {m = ok t} p h = record { leaves = h .on }
 leaves-because n s {m = stop e} p h = record { leaves = p }
-
-whatever : {E A : Type 0} {m : Result E A} → On (λ a. Unit {0}) m
-whatever = on-any (λ a. tt)
 
 -- ---- each place is at most the stream's count
 

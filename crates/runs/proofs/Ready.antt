@@ -1,5 +1,5 @@
 -- What a file that reads is ready for: its arrays and its two programs lie in it and fit; and the first state of a run.
-use Prim.Native.Nat.{ℕ, zero, suc, _+_, _*_, _/_, _≤_}
+use Prim.Native.Nat.{ℕ, zero, suc, _*_, _≤_}
 use mathlib.Core.Path.{_≡_, refl, sym, ap, subst, _∙_}
 use mathlib.Core.Bool.{Bool, true, false, cond}
 use mathlib.Core.List.{List, [], _∷_, map}
@@ -7,92 +7,65 @@ use mathlib.Core.Logic.{inl, inr}
 use mathlib.Core.Option.{none}
 use native.Mathlib.Omega.{arith}
 use native.Mathlib.Nat as NatL
-use lib.ListN.{length, getD, take, drop, replicate}
-use Rattle.numbers.specs.Result.{ok}
+use lib.ListN.{length, getD, take, replicate}
 use Rattle.numbers.specs.Lists.{sum}
 use Rattle.numbers.specs.Words.{words, bytes}
 use Rattle.numbers.specs.Areas.{AllBelow, none-there, below-too}
 use Rattle.numbers.proofs.Areas.{words-bytes, zeros-bytes}
-use Rattle.numbers.proofs.Results.{on-at}
 use Rattle.kernel.specs.File.{Rec, numbers, Kernel, nothing, input, output, on, only, length-of, count-of, array}
-use Rattle.kernel.specs.Reading.{read-file, array-scope, stream-scope}
+use Rattle.kernel.specs.Reading.{array-scope, stream-scope}
 use Rattle.kernel.specs.Blocks.{tree}
 use Rattle.kernel.specs.Memory as Memory
 use Rattle.kernel.specs.Memory.{before, total, start}
 use Rattle.kernel.proofs.Guarantees.{ArrayFits, All, Reads}
-use Rattle.kernel.proofs.Readable.{length-records, file-reads}
-use Rattle.kernel.proofs.Lengths.{file-length}
 use Rattle.sections.specs.declared.Counts.{Counts}
-use Rattle.sections.specs.declared.Read.{Read}
-use Rattle.sections.specs.declared.Read.the-variants.{Kernel as Kernel-of}
-use Rattle.sections.specs.View as Sections
-use Rattle.sections.specs.View.{kernel, arrays-at, array-program-at, stream-program-at, derivation-at}
+use Rattle.sections.specs.View.{kernel, arrays-at, array-program-at, stream-program-at}
 use Rattle.registers.specs.View.{known, state}
 use Rattle.cells.specs.View as Cells
 use Rattle.ends.specs.declared.Part.{Part}
 use Rattle.ends.specs.View.{tree-at}
+use Rattle.ends.specs.Parts.{ReadAs, Few, array-part, stream-part}
+use Rattle.ends.proofs.Parts.{reads, few, whole}
 use Rattle.memory.specs.View.{arrays-of, field-of, Arrays, Measure}
 use Rattle.runs.specs.View.{Ready}
 
--- what the reader's answer says
-pub read-as : (file : List ℕ) (r : Read) (c : Counts) → Sections.answer file r ≡ read-file file → r ≡ Kernel-of c → read-file file ≡ ok (kernel file c)
-unfolding Sections.answer
-read-as file r c e f = sym e ∙ ap (Sections.answer file) f
+-- ---- arrays and programs
 
--- where the two programs stand
-abbrev pub array-part : Counts → Part
-array-part c = record { at = 4 + 8 * c .a; count = c .s }
+module _ (file : List ℕ) (c : Counts) (e : ReadAs file c) where
+  abbrev f : Few c
+  f = few file c e
 
-abbrev pub stream-part : Counts → Part
-stream-part c = record { at = 5 + 8 * (c .a + c .s); count = c .t }
-
--- ---- the counts are the lengths
-
-module _ (file : List ℕ) (c : Counts) (e : read-file file ≡ ok (kernel file c)) where
-  reads : Reads (kernel file c)
-  reads = on-at (file-reads file) e
-
-  abbrev whole : Type 0
-  whole = 6 + 8 * (c .a + c .s + c .t + c .d) ≡ length file / 4
-
-  counted : whole
-  unfolding kernel
-  counted =
-      let h = on-at (file-length file) e in
-      omega (arith, h, length-records (c .a) (drop (arrays-at c) (words file)), length-records (c .s) (drop (array-program-at c) (words file)), length-records (c .t) (drop (stream-program-at c) (words file)), length-records (c .d) (drop (derivation-at c) (words file)))
-
-  pub few : (c .a ≤ 8) × (c .s ≤ 256) × (c .t ≤ 256)
-  unfolding kernel
-  few = (omega (arith, reads .few-arrays, length-records (c .a) (drop (arrays-at c) (words file))), omega (arith, reads .few-array-statements, length-records (c .s) (drop (array-program-at c) (words file))), omega (arith, reads .few-stream-statements, length-records (c .t) (drop (stream-program-at c) (words file))))
+  abbrev r : Reads (kernel file c)
+  r = reads file c e
 
   pub arrays-ready : Arrays file (c .a)
   unfolding kernel arrays-at
-  arrays-ready = record { few = few .0; there = omega (arith, counted); fit = reads .arrays }
+  arrays-ready = record { few = f .arrays; there = omega (arith, whole file c e); fit = r .arrays }
 
   pub array-ready : Ready file (c .a) (array-part c)
   unfolding kernel arrays-at array-program-at
   array-ready = record {
     arrays = arrays-ready;
-    inputs = reads .input-lengths;
-    outputs = reads .output-lengths;
-    lies = record { inside = omega (arith, counted); near = omega (arith, few .0); few = few .1 };
+    inputs = r .input-lengths;
+    outputs = r .output-lengths;
+    lies = record { inside = omega (arith, whole file c e); near = omega (arith, f .arrays); few = f .array-statements };
     scope = array-scope (kernel file c);
-    reads = reads .array-program;
-    few-registers = omega (arith, reads .few-registers);
-    few-arrays = reads .few-arrays;
+    reads = r .array-program;
+    few-registers = omega (arith, r .few-registers);
+    few-arrays = r .few-arrays;
   }
 
   pub stream-ready : Ready file (c .a) (stream-part c)
   unfolding kernel arrays-at stream-program-at
   stream-ready = record {
     arrays = arrays-ready;
-    inputs = reads .input-lengths;
-    outputs = reads .output-lengths;
-    lies = record { inside = omega (arith, counted); near = omega (arith, few .0, few .1); few = few .2 };
+    inputs = r .input-lengths;
+    outputs = r .output-lengths;
+    lies = record { inside = omega (arith, whole file c e); near = omega (arith, f .arrays, f .array-statements); few = f .stream-statements };
     scope = stream-scope (kernel file c);
-    reads = reads .stream-program;
-    few-registers = omega (arith, reads .few-registers, reads .few-buffers);
-    few-arrays = reads .few-arrays;
+    reads = r .stream-program;
+    few-registers = omega (arith, r .few-registers, r .few-buffers);
+    few-arrays = r .few-arrays;
   }
 
 -- ---- the first state

@@ -5,7 +5,7 @@ use sections::Counts;
 use sections::Read;
 ghost use mathlib.Core.Path.{_≡_};
 ghost use mathlib.Core.List.{map};
-ghost use Prim.Native.Nat.{_+_, _*_};
+ghost use Prim.Native.Nat.{_*_};
 ghost use lib.Dec.{eqb};
 ghost use lib.IntN.{pos};
 ghost use lib.ListN.{length};
@@ -106,13 +106,7 @@ pub fn array_run(file: &[u8], input: &[u8], output: &mut [u8]) -> Ran
     ensures { λ r. ⌜ ArrayRun (now (file .entry)) (now (input .entry)) (now (output .entry)) r (now (output .exit)) ⌝ }
 {
     match reading::read(file) {
-        Read::Kernel(c) => {
-            let part = Part {
-                at: 4 + 8 * c.a,
-                count: c.s,
-            };
-            run(file, c.a, part, 1, input, output)
-        }
+        Read::Kernel(c) => run(file, c.a, ends::array_part(c), 1, input, output),
         Read::Refused(number, section, place) => Ran::Refused(number, section, place),
     }
 }
@@ -121,13 +115,7 @@ pub fn stream_run(file: &[u8], input: &[u8], output: &mut [u8]) -> Ran
     ensures { λ r. ⌜ StreamRun (now (file .entry)) (now (input .entry)) (now (output .entry)) r (now (output .exit)) ⌝ }
 {
     match reading::read(file) {
-        Read::Kernel(c) => {
-            let part = Part {
-                at: 5 + 8 * (c.a + c.s),
-                count: c.t,
-            };
-            run(file, c.a, part, 3, input, output)
-        }
+        Read::Kernel(c) => run(file, c.a, ends::stream_part(c), 3, input, output),
         Read::Refused(number, section, place) => Ran::Refused(number, section, place),
     }
 }

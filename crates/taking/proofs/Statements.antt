@@ -21,9 +21,10 @@ use Rattle.sections.specs.declared.Rec as Code
 use Rattle.sections.specs.View.{rec}
 use Rattle.rules.specs.declared.Walked.{Walked}
 use Rattle.rules.specs.View.{stand, ruled}
-use Rattle.places.specs.View.{ReadAs, array-there, stream-there, Plain}
-use Rattle.places.proofs.Read as Read
-use Rattle.places.proofs.Read.{K, few, arrays-count, registers-are, buffers-are}
+use Rattle.ends.specs.Parts.{ReadAs}
+use Rattle.places.specs.View.{array-there, stream-there, Plain}
+use Rattle.ends.proofs.Parts as Parts
+use Rattle.ends.proofs.Parts.{K, few, arrays-count, registers-are, buffers-are}
 
 -- ---- a statement of a program that reads, by its code
 
@@ -229,7 +230,7 @@ module _ (file : List ℕ) (c : Counts) (w : Walked) (e : ReadAs file c) where
   -- the statements a and s there, as the code has them, where rule r fits
   module _ (r : Rule) (f : (d : Stand) → fits (K file c) d r (array-there file c w) (stream-there file c w) ≡ true) (a s : Code.Rec) (ea : rec a ≡ array-there file c w) (es : rec s ≡ stream-there file c w) where
     named-there : Named (K file c) r (rec a) (rec s)
-    named-there = subst (λ a. Named (K file c) r a (rec s)) (sym ea) (subst (Named (K file c) r (array-there file c w)) (sym es) (named (K file c) (Read.reads file c e) (w .array) (w .stream) (beginning (K file c)) r (f (beginning (K file c)))))
+    named-there = subst (λ a. Named (K file c) r a (rec s)) (sym ea) (subst (Named (K file c) r (array-there file c w)) (sym es) (named (K file c) (Parts.reads file c e) (w .array) (w .stream) (beginning (K file c)) r (f (beginning (K file c)))))
 
     pub read-asks : r ≡ read-rule → a .q < c .a
     read-asks o = omega (arith, subst (λ r. Named (K file c) r (rec a) (rec s)) o named-there, arrays-count file c)

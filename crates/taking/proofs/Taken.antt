@@ -14,8 +14,8 @@ use Rattle.forms.specs.Form.{Loop}
 use Rattle.kernel.specs.File.{Rec, Kernel}
 use Rattle.kernel.specs.Reading.{array-scope, Open}
 use Rattle.kernel.specs.Ledger.{Ledger}
-use Rattle.kernel.specs.Stand.{Opened, in-for, in-if, in-else, Stand, loops, next-rule, next-array, next-stream, went, Rule, same-rule, read-rule, fill-rule, use-rule, move-rule, write-rule, for-rule, if-rule, else-rule, end-rule, no-rule, rule}
-use Rattle.kernel.specs.Check.{fits, effect, follow, break, at, take-rule}
+use Rattle.kernel.specs.Stand.{Opened, in-for, in-if, in-else, Stand, loops, went, Rule, same-rule, read-rule, fill-rule, use-rule, move-rule, write-rule, for-rule, if-rule, else-rule, end-rule, no-rule, rule}
+use Rattle.kernel.specs.Check.{fits, effect, break, at, take-rule}
 use Rattle.kernel.proofs.Guarantees.{Nested}
 use Rattle.kernel.proofs.Sayings.{there-at}
 use Rattle.sections.specs.declared.Counts.{Counts}
@@ -23,9 +23,9 @@ use Rattle.ends.proofs.Walk.{plain-at}
 use Rattle.ledger.specs.View.{Bounded}
 use Rattle.rules.specs.declared.Walked.{Walked}
 use Rattle.rules.specs.View.{stand, ruled}
-use Rattle.rules.proofs.Effects.{need-fails, need-holds}
 use Rattle.places.specs.View.{Stood, Onward, rule-code, array-there, stream-there, Takes, Plain, ReadsOn}
-use Rattle.places.proofs.Read.{K}
+use Rattle.ends.proofs.Parts.{K}
+use Rattle.places.proofs.Comes.{here, Effect, unfit, fit}
 use Rattle.taking.proofs.Statements.{Level, level-at, passing}
 
 -- ---- the rule there, taken
@@ -39,20 +39,11 @@ module _ (file : List ℕ) (c : Counts) (w : Walked) (code : ℕ) where
   fits-there {t} h e d = sym (not-false t e) ∙ h d
 
   module _ (os : List Opened) (e : code ≡ rule-code file c w) where
-    abbrev here : Stand
-    here = stand (c .a) (c .b) os w
+    pub taken-not : {t : Bool} → FitsThere t → not t ≡ true → at (here file c os w) (stop 10) ≡ take-rule (K file c) (here file c os w)
+    taken-not {t} h n = sym (unfit file c os w code (sym e) (sym (h (here file c os w)) ∙ not-true t n))
 
-    taken-as : at here (follow (K file c) here (rule code) (array-there file c w) (stream-there file c w)) ≡ take-rule (K file c) here
-    unfolding take-rule next-rule next-array next-stream
-    taken-as = ap (λ n. at here (follow (K file c) here (rule n) (array-there file c w) (stream-there file c w))) e
-
-    pub taken-not : {t : Bool} → FitsThere t → not t ≡ true → at here (stop 10) ≡ take-rule (K file c) here
-    unfolding follow
-    taken-not {t} h e = ap (at here) (sym (need-fails 10 _ _ (sym (h here) ∙ not-true t e))) ∙ taken-as
-
-    taken-on : FitsThere true → at here (effect (K file c) here (rule code) (array-there file c w) (stream-there file c w)) ≡ take-rule (K file c) here
-    unfolding follow
-    taken-on h = ap (at here) (sym (need-holds 10 _ _ (sym (h here)))) ∙ taken-as
+    taken-on : FitsThere true → at (here file c os w) (Effect file c os w code) ≡ take-rule (K file c) (here file c os w)
+    taken-on h = sym (fit file c os w code (sym e) (sym (h (here file c os w))))
 
 -- ---- where it goes on
 

@@ -13,7 +13,8 @@ ghost use Rattle.kernel.specs.Check as Check;
 ghost use Rattle.sections.specs.View.{kernel};
 ghost use Rattle.ledger.specs.View.{Bounded};
 ghost use Rattle.rules.specs.View.{stand, ruled};
-ghost use Rattle.places.specs.View.{ReadAs, Stood, Onward, rule-code, array-there, stream-there, Takes, Plain, ReadsOn};
+ghost use Rattle.ends.specs.Parts.{ReadAs};
+ghost use Rattle.places.specs.View.{Stood, Onward, rule-code, array-there, stream-there, Takes, Plain, ReadsOn};
 
 // Condition and effect of a rule that fits.
 fn follows(file: &[u8], c: Counts, w: Walked, ls: Loops, code: u32) -> Walked

@@ -22,7 +22,8 @@ use Rattle.sections.specs.View.{kernel, array-program-at}
 use Rattle.sections.proofs.Places.{records-at}
 use Rattle.rules.specs.declared.Walked.{Walked}
 use Rattle.ledger.specs.View.{ledger}
-use Rattle.places.specs.View.{array-part, Stood, Onward, loop-there, Takes, Closing, Plain, ReadsOn, Enters}
+use Rattle.ends.specs.Parts.{array-part}
+use Rattle.places.specs.View.{Stood, Onward, loop-there, Takes, Closing, Plain, ReadsOn, Enters}
 use Rattle.opening.proofs.Entering.{loops-count}
 use Rattle.walk.specs.View.{Goes, Further, Opens}
 use Rattle.walk.proofs.Walks.{goes-rule, goes-then, goes-stop}

@@ -2,25 +2,25 @@
 use Prim.Native.Nat.{ℕ, _≤_, _<_}
 use mathlib.Core.Path.{_≡_, refl, sym, ap, subst, _∙_}
 use mathlib.Core.Bool.{Bool, true, false, not, cond, _&&_, false≢true}
-use mathlib.Core.Logic.{_⊎_, inl, inr}
-use mathlib.Core.List.{List, [], _∷_, _++_}
+use mathlib.Core.Logic.{inl, inr}
+use mathlib.Core.List.{List, [], _∷_}
 use native.Mathlib.Omega.{arith}
 use lib.Dec.{eqb, leb}
-use lib.ListN.{length, getD}
+use lib.ListN.{length}
 use borrow.Author.Tests.{eq-eqb, ne-eqb, lt-leb, le-leb}
 use Rattle.numbers.specs.Result.{Result, ok, stop, _>>=_, need, because}
 use Rattle.kernel.specs.File.{nothing, Kernel}
 use Rattle.kernel.specs.Stand as S
-use Rattle.kernel.specs.Stand.{Opened, in-for, in-if, in-else, Stand}
+use Rattle.kernel.specs.Stand.{Opened, Stand}
 use Rattle.kernel.specs.Check as Check
-use Rattle.kernel.specs.Check.{Break, break, no-block, finish}
+use Rattle.kernel.specs.Check.{break, no-block, finish}
 use Rattle.kernel.proofs.Walking.{walk-on, walk-over, walk-take}
 use Rattle.sections.specs.declared.Counts.{Counts}
 use Rattle.sections.specs.View.{kernel}
 use Rattle.rules.specs.declared.Walked.{Walked}
 use Rattle.rules.specs.View.{stand, ruled}
 use Rattle.places.specs.View.{rule-code, Takes, Closing}
-use Rattle.places.proofs.Read.{array-count, stream-count, rule-count}
+use Rattle.ends.proofs.Parts.{array-count, stream-count, rule-count}
 use Rattle.walk.specs.View.{Goes, Rests}
 
 module _ (file : List ℕ) (c : Counts) where

@@ -3,11 +3,10 @@ use Prim.Native.Nat.{ℕ, _≤_, _<_}
 use mathlib.Core.Path.{_≡_}
 use mathlib.Core.Bool.{Bool, true, false}
 use mathlib.Core.List.{List}
-use Rattle.numbers.specs.Result.{Result, _>>=_}
+use Rattle.numbers.specs.Result.{_>>=_}
 use Rattle.forms.specs.declared.Loops.{Loops}
 use Rattle.kernel.specs.Reading.{Open, open-loops}
 use Rattle.kernel.specs.Stand.{Opened}
-use Rattle.kernel.specs.Check.{Break}
 use Rattle.kernel.proofs.Walking.{walk-on}
 use Rattle.sections.specs.declared.Counts.{Counts}
 use Rattle.sections.specs.View.{kernel}

@@ -9,7 +9,8 @@ ghost use Prim.Native.Nat.{ℕ, _≤_, _<_};
 ghost use Rattle.forms.specs.Code.{loops, Turning};
 ghost use Rattle.kernel.specs.Stand as Stand;
 ghost use Rattle.kernel.specs.Check as Check;
-ghost use Rattle.places.specs.View.{ReadAs, Stood, rule-code, Closing};
+ghost use Rattle.ends.specs.Parts.{ReadAs};
+ghost use Rattle.places.specs.View.{Stood, rule-code, Closing};
 ghost use Rattle.walk.specs.View.{Goes, Opens, Rests, Further};
 
 // ---- where a block stops
@@ -74,7 +75,7 @@ fn check_rule(file: &[u8], c: Counts, w: Walked, ls: Loops, code: u32) -> Walked
         if e.number != 0 {
             return e;
         }
-        let part = places::array_part(c);
+        let part = ends::array_part(c);
         let l = loops::loop_at(file, part.at + 8 * w.array);
         let v = check_block(file, c, e, places::deeper(ls, l), true);
         if v.number != 0 {

@@ -1,15 +1,14 @@
 -- `checking::judged` meets its contract: the walk from the beginning, then the counts.
 use mathlib.Core.Path.{refl, sym, ap, _∙_}
-use mathlib.Core.List.{[], map}
+use mathlib.Core.List.{[]}
 use native.Mathlib.Omega.{arith}
 use lib.ListN.{take}
 use borrow.Author.Needs.{needs}
 use borrow.Author.Tests.{not-true, not-false}
-use Rattle.forms.specs.Code.{form}
 use Rattle.kernel.specs.Check as Check
-use Rattle.sections.specs.View.{kernel}
 use Rattle.ledger.specs.View.{ledger}
-use Rattle.places.proofs.Read.{K, arrays-ready, arrays-are}
+use Rattle.ends.proofs.Parts.{K}
+use Rattle.places.proofs.Read.{arrays-ready, arrays-are}
 use Rattle.checking.specs.View.{answer}
 use Rattle.checking.proofs.Judging.{stood, turning, opens, no-loops, answers-refused, low, low-end, answers-counted, answers-uncounted}
 use Rattle.checking.proofs.judged.Statement.{statement}

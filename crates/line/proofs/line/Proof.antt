@@ -1,5 +1,5 @@
 -- `line::line` meets its contract: the numbers of the answer, the last first, and the word before them.
-use mathlib.Core.Path.{sym, ap, subst, _∙_}
+use mathlib.Core.Path.{sym, subst}
 use Rattle.kernel.specs.Answers as Answers
 use Rattle.checking.specs.View.{answer}
 use Rattle.line.specs.View.{Shows}

@@ -26,8 +26,10 @@ use Rattle.rows.specs.View.{SmallForms}
 use Rattle.rules.specs.View.{stand}
 use Rattle.rules.proofs.Effects.{need-fails, need-holds}
 use Rattle.places.specs.View.{loop-there}
-use Rattle.places.proofs.Read.{few, derived, derivation-is, arrays-count, buffers-are}
-use Rattle.opening.proofs.Taking.{Fitting, refuses, unfit, fit, stopped}
+use Rattle.ends.proofs.Parts.{few, derivation-is, arrays-count, buffers-are}
+use Rattle.places.proofs.Read.{derived}
+use Rattle.places.proofs.Comes.{Fitting, unfit, fit}
+use Rattle.opening.proofs.Taking.{refuses, stopped}
 use Rattle.opening.proofs.Entering.{loops-count, deep, deep-loops, small-forms, first-as, tests, for-enters, went-in, rows-there, array-there-is, loop-fits, for-onward, enters}
 use Rattle.opening.proofs.enter_for.Statement.{statement}
 use Rattle.opening.proofs.enter_for.Tie as tie

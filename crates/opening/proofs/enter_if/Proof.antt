@@ -11,7 +11,8 @@ use Rattle.ledger.specs.View.{ledger}
 use Rattle.rules.specs.declared.Walked.{Walked}
 use Rattle.rules.specs.View.{stand}
 use Rattle.rules.proofs.Effects.{bounded-more}
-use Rattle.opening.proofs.Taking.{Fitting, refuses, unfit, fit, stopped, went-on, if-opens}
+use Rattle.places.proofs.Comes.{Fitting, unfit, fit}
+use Rattle.opening.proofs.Taking.{refuses, stopped, went-on, if-opens}
 use Rattle.places.proofs.Standing.{near}
 use Rattle.opening.proofs.Going.{onward, if-reads}
 use Rattle.opening.proofs.enter_if.Statement.{statement}

@@ -14,7 +14,7 @@ use Rattle.ledger.specs.declared.Ledger.{Ledger}
 use Rattle.ledger.specs.View.{ledger}
 use Rattle.rules.specs.View.{stand}
 use Rattle.rules.proofs.Effects.{need-fails, need-holds}
-use Rattle.places.proofs.Read.{few}
+use Rattle.ends.proofs.Parts.{few}
 use Rattle.opening.proofs.Taking.{Closed, closing, refuses, stopped, went-on, closed-fits, closes, not-end, for-stops, for-ends}
 use Rattle.places.proofs.Standing.{near, bounded-wider}
 use Rattle.opening.proofs.Going.{onward, end-for-reads}

@@ -10,7 +10,7 @@ use Rattle.kernel.specs.Check as Check
 use Rattle.ledger.specs.View.{ledger}
 use Rattle.rules.specs.View.{stand}
 use Rattle.rules.proofs.Effects.{need-fails, need-holds, bounded-more}
-use Rattle.places.proofs.Read.{few}
+use Rattle.ends.proofs.Parts.{few}
 use Rattle.opening.proofs.Taking.{Closed, closing, refuses, stopped, went-on, closed-fits, closes, not-end, else-stops, else-ends}
 use Rattle.places.proofs.Standing.{near}
 use Rattle.opening.proofs.Going.{onward, end-if-reads}

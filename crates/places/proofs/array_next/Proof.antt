@@ -1,11 +1,11 @@
 -- `places::array_next` meets its contract.
-use Prim.Native.Nat.{ℕ}
 use mathlib.Core.Path.{sym, ap, subst, _∙_}
 use lib.ListN.{getD}
 use Rattle.kernel.specs.File.{nothing}
 use Rattle.ends.specs.View.{program}
 use Rattle.fitting.specs.View.{Derived}
-use Rattle.places.proofs.Read.{few, array-derived, array-program-is}
+use Rattle.ends.proofs.Parts.{few, array-program-is}
+use Rattle.places.proofs.Read.{array-derived}
 use Rattle.places.proofs.array_next.Statement.{statement}
 use Rattle.places.proofs.array_next.Tie as tie
 

@@ -1,14 +1,13 @@
 -- `places::code_there` meets its contract: the first number of the rule's record.
 use Prim.Native.Nat.{_+_, _*_}
-use mathlib.Core.Path.{sym, ap, _∙_}
+use mathlib.Core.Path.{ap, _∙_}
 use native.Mathlib.Omega.{arith}
 use borrow.Author.Needs.{needs}
-use lib.ListN.{getD}
 use Rattle.numbers.specs.Areas.{word}
-use Rattle.kernel.specs.File.{Rec, nothing}
 use Rattle.ends.specs.declared.Part.{Part}
-use Rattle.places.specs.View.{derivation-part}
-use Rattle.places.proofs.Read.{few, derivation-is, rule-code-is}
+use Rattle.ends.specs.Parts.{derivation-part}
+use Rattle.ends.proofs.Parts.{few}
+use Rattle.places.proofs.Read.{rule-code-is}
 use Rattle.places.proofs.code_there.Statement.{statement}
 use Rattle.places.proofs.code_there.Tie as tie
 

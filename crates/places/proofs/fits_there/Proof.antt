@@ -1,10 +1,9 @@
 -- `places::fits_there` meets its contract.
 use mathlib.Core.Path.{_∙_}
-use native.Mathlib.Omega.{arith}
 use borrow.Author.Needs.{needs}
 use Rattle.kernel.specs.Stand as Stand
 use Rattle.kernel.specs.Check as Check
-use Rattle.places.proofs.Read.{K, few, registers-are}
+use Rattle.ends.proofs.Parts.{K, few, registers-are}
 use Rattle.places.proofs.fits_there.Statement.{statement}
 use Rattle.places.proofs.fits_there.Tie as tie
 

@@ -1,9 +1,7 @@
 -- `places::record_at` meets its contract: a record of the part, or none past its end.
-use Prim.Native.Nat.{_+_, _*_}
 use mathlib.Core.Path.{sym, _∙_}
 use native.Mathlib.Omega.{arith}
 use lib.ListN.{drop}
-use borrow.Author.Needs.{needs}
 use Rattle.numbers.specs.Words.{words}
 use Rattle.sections.proofs.Places.{records-at, records-past}
 use Rattle.places.proofs.record_at.Statement.{statement}

@@ -1,11 +1,11 @@
 -- `places::stream_next` meets its contract.
-use Prim.Native.Nat.{ℕ}
 use mathlib.Core.Path.{sym, ap, subst, _∙_}
 use lib.ListN.{getD}
 use Rattle.kernel.specs.File.{nothing}
 use Rattle.ends.specs.View.{program}
 use Rattle.fitting.specs.View.{Derived}
-use Rattle.places.proofs.Read.{few, stream-derived, stream-program-is}
+use Rattle.ends.proofs.Parts.{few, stream-program-is}
+use Rattle.places.proofs.Read.{stream-derived}
 use Rattle.places.proofs.stream_next.Statement.{statement}
 use Rattle.places.proofs.stream_next.Tie as tie
 

@@ -6,7 +6,8 @@ use Rattle.kernel.specs.Memory as Memory
 use Rattle.sections.specs.View as Sections
 use Rattle.sections.specs.View.{kernel, arrays-at}
 use Rattle.runs.specs.Promises.{Moves}
-use Rattle.runs.proofs.Ready.{read-as, arrays-ready}
+use Rattle.ends.proofs.Parts.{read-as}
+use Rattle.runs.proofs.Ready.{arrays-ready}
 use Rattle.runs.proofs.Calls.{refused-move, call-reads, call-stops}
 use borrow.Author.Needs.{needs}
 use Rattle.runs.proofs.put_back.Statement.{statement}

@@ -2,7 +2,8 @@
 use native.Mathlib.Omega.{arith}
 use borrow.Author.Needs.{needs}
 use Rattle.kernel.specs.Stand as Stand
-use Rattle.places.proofs.Read.{K, few, arrays-ready, arrays-are, registers-are}
+use Rattle.ends.proofs.Parts.{K, few, registers-are}
+use Rattle.places.proofs.Read.{arrays-ready, arrays-are}
 use Rattle.places.proofs.Standing.{near, small-ledger}
 use Rattle.taking.proofs.Statements.{same-at, read-at, fill-at, use-at, move-at, write-at, as-there, read-asks, write-asks, fill-asks, use-asks, move-asks}
 use Rattle.taking.proofs.follows.Statement.{statement}

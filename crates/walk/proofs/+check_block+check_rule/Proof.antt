@@ -16,7 +16,8 @@ use Rattle.blocks.proofs.Room.{loop-room}
 use Rattle.ends.specs.declared.Part.{Part}
 use Rattle.ledger.specs.View.{ledger}
 use Rattle.places.specs.View.{loop-there, Closing}
-use Rattle.places.proofs.Read.{few, array-derived}
+use Rattle.ends.proofs.Parts.{few}
+use Rattle.places.proofs.Read.{array-derived}
 use Rattle.places.proofs.Standing.{bounded-wider}
 use Rattle.walk.specs.View.{Goes, Further}
 use Rattle.walk.proofs.Walks.{goes-none, goes-rule, goes-then, goes-stop, comes-inside}
@@ -29,7 +30,7 @@ use Rattle.walk.proofs.check_rule.Kinds as check-rule-kinds
 use Rattle.walk.proofs.+check_block+check_rule.Lts-check_rule as check-rule-lts
 use Rattle.fields.proofs.between.Reads as between-reads
 use Rattle.loops.proofs.loop_at.Reads as loop-at-reads
-use Rattle.places.proofs.array_part.Reads as array-part-reads
+use Rattle.ends.proofs.array_part.Reads as array-part-reads
 use Rattle.places.proofs.code_there.Reads as code-there-reads
 use Rattle.places.proofs.deeper.Reads as deeper-reads
 use Rattle.walk.proofs.closing.Reads as closing-reads

@@ -2,7 +2,7 @@
 use mathlib.Core.Path.{refl, ap, _∙_}
 use native.Mathlib.Omega.{arith}
 use borrow.Author.Needs.{needs}
-use borrow.Author.Tests.{not-true, not-false}
+use borrow.Author.Tests.{not-false}
 use Rattle.rules.specs.declared.Walked.{Walked}
 use Rattle.walk.proofs.Walks.{goes-none, stray, rests-inside}
 use Rattle.walk.proofs.closing.Statement.{statement}

@@ -1,5 +1,5 @@
 -- `line::Text::decimal` meets its contract. The invariant: the digits of what is left go before the text to the same end, and there is room for them.
-use Prim.Native.Nat.{ℕ, suc, _+_, _≤_}
+use Prim.Native.Nat.{ℕ, suc, _≤_}
 use mathlib.Core.Path.{_≡_, refl, sym, subst, _∙_}
 use mathlib.Core.List.{List}
 use native.Mathlib.Omega.{arith}
