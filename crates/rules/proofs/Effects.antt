@@ -2,6 +2,7 @@
 use Prim.Native.Nat.{ℕ, zero, suc, _+_}
 use mathlib.Core.Path.{_≡_, refl, ap, _∙_}
 use mathlib.Core.Bool.{Bool, true, false, not, cond, _&&_}
+use mathlib.Core.Logic.{inl, inr}
 use mathlib.Core.List.{List}
 use native.Mathlib.Omega.{arith}
 use lib.Dec.{eqb}
@@ -10,14 +11,15 @@ use Rattle.numbers.specs.Result.{Result, ok, stop, _>>=_, need, because}
 use Rattle.forms.specs.Form as F
 use Rattle.forms.specs.declared.Form.{Form}
 use Rattle.forms.specs.Code.{form}
+use Rattle.kernel.specs.File.{Rec, Kernel}
 use Rattle.kernel.specs.Ledger as L
 use Rattle.kernel.specs.Check as Check
-use Rattle.kernel.specs.Stand.{Opened, Stand, went}
+use Rattle.kernel.specs.Stand.{Opened, Stand, went, Rule, read-rule}
 use Rattle.ledger.specs.declared.Ledger.{Ledger}
 use Rattle.ledger.specs.View.{numbered, ledger, Bounded}
 use Rattle.ledger.proofs.Bounds.{within-wider}
 use Rattle.rules.specs.declared.Walked.{Walked}
-use Rattle.rules.specs.View.{stand, answered, ruled}
+use Rattle.rules.specs.View.{stand, answered, ruled, ReadOrWrite}
 
 module _ {A : Type 0} (number : ℕ) (t : Bool) (f : Unit {0} → Result ℕ A) where
   pub need-fails : t ≡ false → (need number t >>= f) ≡ stop number
@@ -50,6 +52,12 @@ module _ (n b : ℕ) (os : List Opened) (w r : Walked) where
       → ruled n b os r ≡ Check.at (stand n b os w) (ok (went 1 arrays 1 os M (stand n b os w)))
   unfolding ruled Check.at because went
   ruled-on arrays l M e f = ap (ruled n b os) e ∙ ap (λ M. ok (record { rule = w .rule + 1; array = w .array + arrays; stream = w .stream + 1; opened = os; ledger = M })) f
+
+-- rules 2 and 6 have one effect
+pub read-or-write : (K : Kernel) (c : Stand) (r : Rule) (a s : Rec) → ReadOrWrite r → Check.effect K c r a s ≡ Check.effect K c read-rule a s
+unfolding Check.effect L.read-step L.write-step
+read-or-write K c r a s (inl e) = ap (λ r. Check.effect K c r a s) e
+read-or-write K c r a s (inr e) = ap (λ r. Check.effect K c r a s) e
 
 -- a step more
 pub bounded-more : (m : ℕ) (l : Ledger) → Bounded m l → Bounded (m + 1) l

@@ -16,7 +16,7 @@ ghost use Rattle.kernel.specs.Check as Check;
 ghost use Rattle.sections.specs.View.{rec};
 ghost use Rattle.memory.specs.View.{arrays-of, Arrays};
 ghost use Rattle.ledger.specs.View.{ledger, zero-form, Bounded};
-ghost use Rattle.rules.specs.View.{stand, answered, ruled, passing};
+ghost use Rattle.rules.specs.View.{stand, answered, ruled, ReadOrWrite, passing};
 
 // Where the derivation stands: the next record of each section that no rule has taken, and the ledger; or, where the number is not 0, the
 // refusal of the rule there.
@@ -116,10 +116,10 @@ pub fn same(w: Walked) -> Walked
     took(w, 1, l)
 }
 
-// Rule 2: the position below the count (11), the load at the next index (12); then the position is one more.
-pub fn read(file: &[u8], n: usize, w: Walked, ls: Loops, a: Rec) -> Walked
+// Rules 2 and 6: the position below the count (11), the load or store at the next index (12); then the position is one more.
+pub fn passes(file: &[u8], n: usize, w: Walked, ls: Loops, a: Rec) -> Walked
     requires { ⌜ (w .rule ≤ 4096) × (w .array ≤ 4096) × (w .stream ≤ 4096) × Arrays (now file) n × (a .q < n) × Turning ls × ((m : ℕ) × Bounded m (w .ledger) × (m ≤ 4096)) ⌝ }
-    ensures { λ r. ⌜ ((K : File.Kernel) (b : ℕ) (os : List Stand.Opened) (s : File.Rec) → K .arrays ≡ arrays-of (now (file .entry)) n → Stand.loops os ≡ loops ls → ruled n b os r ≡ Check.at (stand n b os w) (Check.effect K (stand n b os w) Stand.read-rule (rec a) s)) × ((m : ℕ) → Bounded m (w .ledger) → Bounded (m + 1) (r .ledger)) ⌝ }
+    ensures { λ r. ⌜ ((K : File.Kernel) (b : ℕ) (os : List Stand.Opened) (s : File.Rec) (rule : Stand.Rule) → ReadOrWrite rule → K .arrays ≡ arrays-of (now (file .entry)) n → Stand.loops os ≡ loops ls → ruled n b os r ≡ Check.at (stand n b os w) (Check.effect K (stand n b os w) rule (rec a) s)) × ((m : ℕ) → Bounded m (w .ledger) → Bounded (m + 1) (r .ledger)) ⌝ }
 {
     let l = w.ledger;
     let number = item(file, n, l, ls, a);
@@ -127,14 +127,6 @@ pub fn read(file: &[u8], n: usize, w: Walked, ls: Loops, a: Rec) -> Walked
         return refused(w, number);
     }
     took(w, 1, l.passed(a.q as usize))
-}
-
-// Rule 6: as read, for the output.
-pub fn write(file: &[u8], n: usize, w: Walked, ls: Loops, a: Rec) -> Walked
-    requires { ⌜ (w .rule ≤ 4096) × (w .array ≤ 4096) × (w .stream ≤ 4096) × Arrays (now file) n × (a .q < n) × Turning ls × ((m : ℕ) × Bounded m (w .ledger) × (m ≤ 4096)) ⌝ }
-    ensures { λ r. ⌜ ((K : File.Kernel) (b : ℕ) (os : List Stand.Opened) (s : File.Rec) → K .arrays ≡ arrays-of (now (file .entry)) n → Stand.loops os ≡ loops ls → ruled n b os r ≡ Check.at (stand n b os w) (Check.effect K (stand n b os w) Stand.write-rule (rec a) s)) × ((m : ℕ) → Bounded m (w .ledger) → Bounded (m + 1) (r .ledger)) ⌝ }
-{
-    read(file, n, w, ls, a)
 }
 
 // Rule 3: the position below the count (11); the buffer then holds the next index, and the position is one more.

@@ -20,7 +20,7 @@ use Rattle.sections.specs.declared.Counts.{Counts}
 use Rattle.sections.specs.declared.Rec as Code
 use Rattle.sections.specs.View.{rec}
 use Rattle.rules.specs.declared.Walked.{Walked}
-use Rattle.rules.specs.View.{stand, ruled}
+use Rattle.rules.specs.View.{stand, ruled, ReadOrWrite}
 use Rattle.ends.specs.Parts.{ReadAs}
 use Rattle.places.specs.View.{array-there, stream-there, Plain}
 use Rattle.ends.proofs.Parts as Parts
@@ -92,10 +92,6 @@ pub same-at : (n : ℕ) → n ≡ 1 → rule n ≡ same-rule
 unfolding rule
 same-at n e = ap rule e
 
-pub read-at : (n : ℕ) → n ≡ 2 → rule n ≡ read-rule
-unfolding rule
-read-at n e = ap rule e
-
 pub fill-at : (n : ℕ) → n ≡ 3 → rule n ≡ fill-rule
 unfolding rule
 fill-at n e = ap rule e
@@ -108,21 +104,21 @@ pub move-at : (n : ℕ) → n ≡ 5 → rule n ≡ move-rule
 unfolding rule
 move-at n e = ap rule e
 
--- what is left where it fits is 6
-pub write-at : (K : Kernel) (d : Stand) (a s : Rec) (n : ℕ) → Plain n → fits K d (rule n) a s ≡ true → (n ≡ 1 → ⊥) → (n ≡ 2 → ⊥) → (n ≡ 3 → ⊥) → (n ≡ 4 → ⊥) → (n ≡ 5 → ⊥) → rule n ≡ write-rule
+-- what is left where it fits is 2 or 6
+pub passes-at : (K : Kernel) (d : Stand) (a s : Rec) (n : ℕ) → Plain n → fits K d (rule n) a s ≡ true → (n ≡ 1 → ⊥) → (n ≡ 3 → ⊥) → (n ≡ 4 → ⊥) → (n ≡ 5 → ⊥) → ReadOrWrite (rule n)
 unfolding rule fits
-write-at K d a s zero h f x y z u v = absurd (false≢true f)
-write-at K d a s (suc zero) h f x y z u v = absurd (x refl)
-write-at K d a s (suc (suc zero)) h f x y z u v = absurd (y refl)
-write-at K d a s (suc (suc (suc zero))) h f x y z u v = absurd (z refl)
-write-at K d a s (suc (suc (suc (suc zero)))) h f x y z u v = absurd (u refl)
-write-at K d a s (suc (suc (suc (suc (suc zero))))) h f x y z u v = absurd (v refl)
-write-at K d a s (suc (suc (suc (suc (suc (suc zero)))))) h f x y z u v = refl
-write-at K d a s (suc (suc (suc (suc (suc (suc (suc zero))))))) h f x y z u v = absurd (level-at 7 h)
-write-at K d a s (suc (suc (suc (suc (suc (suc (suc (suc zero)))))))) h f x y z u v = absurd (level-at 8 h)
-write-at K d a s (suc (suc (suc (suc (suc (suc (suc (suc (suc zero))))))))) h f x y z u v = absurd (level-at 9 h)
-write-at K d a s (suc (suc (suc (suc (suc (suc (suc (suc (suc (suc zero)))))))))) h f x y z u v = absurd (level-at 10 h)
-write-at K d a s (suc (suc (suc (suc (suc (suc (suc (suc (suc (suc (suc n))))))))))) h f x y z u v = absurd (false≢true f)
+passes-at K d a s zero h f x z u v = absurd (false≢true f)
+passes-at K d a s (suc zero) h f x z u v = absurd (x refl)
+passes-at K d a s (suc (suc zero)) h f x z u v = inl refl
+passes-at K d a s (suc (suc (suc zero))) h f x z u v = absurd (z refl)
+passes-at K d a s (suc (suc (suc (suc zero)))) h f x z u v = absurd (u refl)
+passes-at K d a s (suc (suc (suc (suc (suc zero))))) h f x z u v = absurd (v refl)
+passes-at K d a s (suc (suc (suc (suc (suc (suc zero)))))) h f x z u v = inr refl
+passes-at K d a s (suc (suc (suc (suc (suc (suc (suc zero))))))) h f x z u v = absurd (level-at 7 h)
+passes-at K d a s (suc (suc (suc (suc (suc (suc (suc (suc zero)))))))) h f x z u v = absurd (level-at 8 h)
+passes-at K d a s (suc (suc (suc (suc (suc (suc (suc (suc (suc zero))))))))) h f x z u v = absurd (level-at 9 h)
+passes-at K d a s (suc (suc (suc (suc (suc (suc (suc (suc (suc (suc zero)))))))))) h f x z u v = absurd (level-at 10 h)
+passes-at K d a s (suc (suc (suc (suc (suc (suc (suc (suc (suc (suc (suc n))))))))))) h f x z u v = absurd (false≢true f)
 
 -- ---- what a rule that fits says of the statements
 
@@ -232,11 +228,9 @@ module _ (file : List ℕ) (c : Counts) (w : Walked) (e : ReadAs file c) where
     named-there : Named (K file c) r (rec a) (rec s)
     named-there = subst (λ a. Named (K file c) r a (rec s)) (sym ea) (subst (Named (K file c) r (array-there file c w)) (sym es) (named (K file c) (Parts.reads file c e) (w .array) (w .stream) (beginning (K file c)) r (f (beginning (K file c)))))
 
-    pub read-asks : r ≡ read-rule → a .q < c .a
-    read-asks o = omega (arith, subst (λ r. Named (K file c) r (rec a) (rec s)) o named-there, arrays-count file c)
-
-    pub write-asks : r ≡ write-rule → a .q < c .a
-    write-asks o = omega (arith, subst (λ r. Named (K file c) r (rec a) (rec s)) o named-there, arrays-count file c)
+    pub passes-asks : ReadOrWrite r → a .q < c .a
+    passes-asks (inl o) = omega (arith, subst (λ r. Named (K file c) r (rec a) (rec s)) o named-there, arrays-count file c)
+    passes-asks (inr o) = omega (arith, subst (λ r. Named (K file c) r (rec a) (rec s)) o named-there, arrays-count file c)
 
     pub fill-asks : r ≡ fill-rule → (s .q < c .a) × (c .r ≤ s .p) × (s .p < c .r + 16)
     fill-asks o =

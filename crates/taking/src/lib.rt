@@ -25,11 +25,10 @@ fn follows(file: &[u8], c: Counts, w: Walked, ls: Loops, code: u32) -> Walked
     let s = places::stream_next(file, c, w);
     match code {
         1 => rules::same(w),
-        2 => rules::read(file, c.a, w, ls, a),
         3 => rules::fill(file, c.a, c.r, w, ls, s),
         4 => rules::uses(c.r, w, a, s),
         5 => rules::moves(c.r, w, s),
-        _ => rules::write(file, c.a, w, ls, a),
+        _ => rules::passes(file, c.a, w, ls, a),
     }
 }
 
