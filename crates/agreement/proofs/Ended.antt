@@ -13,16 +13,17 @@ use Rattle.numbers.specs.Result.{Result, ok, stop, _>>=_, because}
 use Rattle.numbers.proofs.Results.{On, on-ok, on-then, on-any, on-at}
 use Rattle.kernel.specs.File.{Rec, Kernel, output, length-of, count-of, Op, set, copy, work, load, store, read, write}
 use Rattle.kernel.specs.Reading.{Scope, array-scope, stream-scope, Open, all-passes}
-use Rattle.kernel.specs.Reading as Reading
-use Rattle.kernel.specs.Blocks.{Block, stops, plain, loop, branch, tree}
-use Rattle.kernel.specs.Machine.{World, State, Around, get, put, advance, keep, perform, Stuck, stuck, step, choose, in-pass, repeat, run}
-use Rattle.kernel.specs.Memory.{total, ran, world, start, outside, array-ran, stream-ran}
-use Rattle.kernel.specs.Stand.{beginning}
+use Rattle.kernel.specs.Blocks.{Block, stops, plain, loop, branch, IsBlock, row-over, row-plain, row-for, row-if}
+use Rattle.kernel.specs.Machine.{Layout, State, Counters, get, put, advance, keep, perform, Stuck, stuck, step, choose, in-pass, repeat, run}
+use Rattle.kernel.specs.Memory.{total, ran, layout, start, outside, array-ran, stream-ran}
+use Rattle.kernel.specs.Trees.{tree}
+use Rattle.kernel.specs.Derivation.{beginning}
 use Rattle.kernel.specs.Check.{check-kernel}
 use Rattle.kernel.specs.Answers.{decimal}
-use Rattle.kernel.proofs.Guarantees.{Nested}
+use Rattle.kernel.specs.Guarantees.{Nested}
 use Rattle.kernel.proofs.Readable.{file-reads}
-use Rattle.kernel.proofs.Trees.{IsBlock, one-tree}
+use Rattle.kernel.proofs.Fronts.{From, read-plain, read-for, read-if, read-else, read-end-for, read-end-if, through}
+use Rattle.kernel.proofs.Trees.{tree-block}
 use Rattle.kernel.proofs.Walking.{same-walk}
 use Rattle.agreement.specs.Ends.{EnoughRules, EnoughDigits, LengthsKept, after, pass-steps, chosen-steps, steps, allowed, FewSteps, Ends}
 
@@ -56,7 +57,7 @@ Keeps n (ok s) = length (s .output) ≡ n
 Keeps n (stop (stuck r i s)) = length (s .output) ≡ n
 
 -- an operation either changes no output cell or changes one
-performed-length : (e : World) (cs : List ℤ) (o : Op) (s : State) → On (λ s′. length (s′ .output) ≡ length (s .output)) (perform e cs o s)
+performed-length : (e : Layout) (cs : List ℤ) (o : Op) (s : State) → On (λ s′. length (s′ .output) ≡ length (s .output)) (perform e cs o s)
 unfolding perform put advance keep
 performed-length e cs (set p f) s = on-ok refl
 performed-length e cs (copy p q) s = on-then _ (on-any {P = λ _. Unit {0}} (λ t. tt)) λ w u. on-ok refl
@@ -74,9 +75,9 @@ unfolding _>>=_
 keeps-then (ok s) f h k = k s h
 keeps-then (stop (stuck r i s)) f h k = h
 
-step-keeps : {n : ℕ} (e : World) (i : ℕ) (o : Op) (c : Around) (s : State) → length (s .output) ≡ n → Keeps n (step e i o c s)
+step-keeps : {n : ℕ} (e : Layout) (i : ℕ) (o : Op) (c : Counters) (s : State) → length (s .output) ≡ n → Keeps n (step e i o c s)
 unfolding step because
-step-keeps {n} e i o c s h = by (perform e (c .counters) o s) (performed-length e (c .counters) o s)
+step-keeps {n} e i o c s h = by (perform e (c .values) o s) (performed-length e (c .values) o s)
   where
     by : (r : Result ℕ State) → On (λ s′. length (s′ .output) ≡ length (s .output)) r → Keeps n (because (λ reason. stuck reason i s) r)
     by (ok s′) k = k .on ∙ h
@@ -99,7 +100,7 @@ choose-keeps {n} i p f g hf hg s h = by (get p s)
     by (ok w) = pick (eqb w 0)
     by (stop r) = h
 
-run-keeps : {n : ℕ} (e : World) (t : Block) (c : Around) (s : State) → length (s .output) ≡ n → Keeps n (run e t c s)
+run-keeps : {n : ℕ} (e : Layout) (t : Block) (c : Counters) (s : State) → length (s .output) ≡ n → Keeps n (run e t c s)
 unfolding run
 run-keeps e (stops i) c s h = h
 run-keeps e (plain i o rest) c s h = keeps-then (step e i o c s) (λ s. run e rest c s) (step-keeps e i o c s h) (λ s′ h′. run-keeps e rest c s′ h′)
@@ -118,8 +119,8 @@ ran-length K (stop (stuck r i s)) h = h
 pub lengths-kept : (K : Kernel) (memory : List ℕ) → LengthsKept K memory
 unfolding array-ran stream-ran start
 lengths-kept K memory = record {
-  array-run = ran-length K _ (run-keeps (world length-of K memory) (tree (K .array-program)) outside (start length-of K) (length-replicate {A = ℕ} (total output length-of K) 0));
-  stream-run = ran-length K _ (run-keeps (world count-of K memory) (tree (K .stream-program)) outside (start count-of K) (length-replicate {A = ℕ} (total output count-of K) 0));
+  array-run = ran-length K _ (run-keeps (layout length-of K memory) (tree (K .array-program)) outside (start length-of K) (length-replicate {A = ℕ} (total output length-of K) 0));
+  stream-run = ran-length K _ (run-keeps (layout count-of K memory) (tree (K .stream-program)) outside (start count-of K) (length-replicate {A = ℕ} (total output count-of K) 0));
 }
 
 -- ---- steps
@@ -146,7 +147,7 @@ chosen-most (ok w) a b n m h k = by (eqb w 0)
     by false = omega arith
 chosen-most (stop r) a b n m h k = omega arith
 
-steps-most : (e : World) (t : Block) (c : Around) (s : State) → steps e t c s ≤ allowed t
+steps-most : (e : Layout) (t : Block) (c : Counters) (s : State) → steps e t c s ≤ allowed t
 unfolding steps allowed
 steps-most e (stops i) c s = omega arith
 steps-most e (plain i o rest) c s = let r = after-most (step e i o c s) (allowed rest) (λ s. steps e rest c s) (λ s′. steps-most e rest c s′) in omega arith
@@ -172,27 +173,25 @@ branch-few : (P f s r i m e j : ℕ) → P ≤ 65536 → P * f + 65536 * suc i �
 branch-few P f s r i m e j few a b c = omega (arith, NatL.mul-suc P (f + s + r), NatL.mul-add P (f + s) r, NatL.mul-add P f s)
 
 -- the passes of the loops around, times what a block allows, are at most 65,536 for each of its records
-few-allowed : (c : Scope) (rs : List Rec) (t : Block) (os : List Open) (i j : ℕ) → all-passes os ≤ 65536 → IsBlock c rs t os i j → (i ≤ j) × (all-passes os * allowed t + 65536 * i ≤ 65536 * j)
-unfolding IsBlock allowed all-passes
-few-allowed c rs (stops n) os i j few h = (omega (arith, h .here), omega (arith, h .here, NatL.mul-zero (all-passes os)))
-few-allowed c rs (plain n o rest) os i j few h =
-    let (l, r) = few-allowed c rs rest os (suc i) j few (h .rest) in
-    (omega arith, plain-few (all-passes os) (allowed rest) i j few r)
-few-allowed c rs (loop n l body rest) os i j few h =
-    let (l₁, r₁) = few-allowed c rs body (Reading.in-for (l .passes) ∷ os) (suc i) (h .end-at) (h .room .passes) (h .body) in
-    let (l₂, r₂) = few-allowed c rs rest os (suc (h .end-at)) j few (h .rest) in
-    (omega arith, loop-few (all-passes os) (l .passes) (allowed body) (allowed rest) i (h .end-at) j few (h .room .passes) r₁ r₂)
-few-allowed c rs (branch n p first second rest) os i j few h =
-    let (l₁, r₁) = few-allowed c rs first (Reading.in-if ∷ os) (suc i) (h .else-at) few (h .first) in
-    let (l₂, r₂) = few-allowed c rs second (Reading.in-else ∷ os) (suc (h .else-at)) (h .end-at) few (h .second) in
-    let (l₃, r₃) = few-allowed c rs rest os (suc (h .end-at)) j few (h .rest) in
-    (omega arith, branch-few (all-passes os) (allowed first) (allowed second) (allowed rest) i (h .else-at) (h .end-at) j few r₁ r₂ r₃)
+few-allowed : (c : Scope) (rs : List Rec) {t : Block} {os : List Open} {i j : ℕ} → all-passes os ≤ 65536 → IsBlock rs t i j → From c rs os i → all-passes os * allowed t + 65536 * i ≤ 65536 * j
+unfolding allowed all-passes
+few-allowed c rs {os} few (row-over s) n = omega (arith, NatL.mul-zero (all-passes os))
+few-allowed c rs {os} {j} few (row-plain {i} {rest} x r) n = plain-few (all-passes os) (allowed rest) i j few (few-allowed c rs few r (read-plain c rs i n x .2))
+few-allowed c rs {os} {j} few (row-for {i} {e = m} {l} {body} {rest} x b y r) n =
+    let (fits, room, inner) = read-for c rs i n x in
+    loop-few (all-passes os) (l .passes) (allowed body) (allowed rest) i m j few (room .passes)
+    (few-allowed c rs (room .passes) b inner) (few-allowed c rs few r (read-end-for c rs m (through c rs b inner) y))
+few-allowed c rs {os} {j} few (row-if {i} {m} {e = last} {first} {second} {rest} x a y b z r) n =
+    let (fits, room, inner) = read-if c rs i n x in
+    let other = read-else c rs m (through c rs a inner) y in
+    branch-few (all-passes os) (allowed first) (allowed second) (allowed rest) i m last j few
+    (few-allowed c rs few a inner) (few-allowed c rs few b other) (few-allowed c rs few r (read-end-if c rs last (through c rs b other) z))
 
 few-steps : (K : Kernel) (c : Scope) (rs : List Rec) → Nested c [] rs → FewSteps K rs
 unfolding all-passes
 few-steps K c rs n = record {
   as-allowed = λ e s. steps-most e (tree rs) outside s;
-  each-few = let (l, r) = few-allowed c rs (tree rs) [] 0 (length rs) (omega arith) (one-tree c rs n .is-one) in omega (arith, NatL.one-mul (allowed (tree rs)));
+  each-few = omega (arith, few-allowed c rs {os = []} (omega arith) (tree-block c rs n .is) n, NatL.one-mul (allowed (tree rs)));
 }
 
 pub ends : Ends

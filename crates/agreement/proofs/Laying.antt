@@ -11,10 +11,12 @@ use lib.Seq.{getD-append-add, set-comm, set-set, set-getD}
 use lib.IntN.{pos, natAbs}
 use borrow.Author.Tests.{eq-eqb, eqb-true}
 use Rattle.numbers.specs.Lists.{sum}
-use Rattle.kernel.specs.File.{Rec, nothing, Kernel, input, output, on, only, length-of, count-of, index, array}
+use Rattle.kernel.specs.File.{Rec, nothing, Kernel, input, output, side-of, only, length-of, count-of, index, array}
+use Rattle.kernel.proofs.Sides.{only-on, on-only}
 use Rattle.kernel.specs.Machine.{cell}
-use Rattle.kernel.specs.Memory.{before, total, listed, cells, laid-out, placed, put-back, world}
-use Rattle.kernel.proofs.Guarantees.{ArrayFits, All, all-at, Reads}
+use Rattle.kernel.specs.Memory.{before, total, listed, cells, laid-out, placed, put-back, layout}
+use Rattle.kernel.specs.Guarantees.{ArrayFits, All, Reads}
+use Rattle.kernel.proofs.Readable.{all-at}
 use Rattle.kernel.proofs.Orders.{item-inside, items-apart, listed-length, cells-length}
 use Rattle.agreement.proofs.Turns.{map-at}
 use Rattle.agreement.proofs.Steps.{Tied}
@@ -121,19 +123,6 @@ placed-zeros (c ∷ cs) (suc k) n = ap (placed cs (replicate k 0)) (set-zero n c
 
 -- ---- the cells of a side
 
--- a number of an array on the side, and none of one that is not
-only-on : (side : ℕ) (n : Rec → ℕ) (a : Rec) → a .code ≡ side → only side n a ≡ n a
-unfolding only on
-only-on side n a e = ap (λ t. cond t (n a) 0) (eq-eqb (a .code) side e)
-
-on-only : (side : ℕ) (n : Rec → ℕ) (a : Rec) (k : ℕ) → k < only side n a → a .code ≡ side
-unfolding only on
-on-only side n a k h = by (eqb (a .code) side) refl h
-  where
-    by : (t : Bool) → eqb (a .code) side ≡ t → k < cond t (n a) 0 → a .code ≡ side
-    by true e h = eqb-true (a .code) side e
-    by false e h = absurd (omega arith)
-
 -- what stands before array q, and all of it, along a row of arrays
 abbrev before-in : ℕ → (Rec → ℕ) → List Rec → ℕ → ℕ
 before-in side n rs q = sum (map (only side n) (take q rs))
@@ -217,7 +206,7 @@ module _ (K : Kernel) (reads : Reads K) where
   fits-array q h = all-at ArrayFits (K .arrays) nothing (reads .arrays) q h
 
   -- item j of array q, on its side: its place among the items, and its cell
-  module _ (side q j i : ℕ) (there : q < length (K .arrays)) (own : array K q .code ≡ side) (counted : j < count-of (array K q)) (at : index (array K q) j ≡ pos i) where
+  module _ (side q j i : ℕ) (there : q < length (K .arrays)) (own : side-of (array K q) ≡ side) (counted : j < count-of (array K q)) (at : index (array K q) j ≡ pos i) where
     counted-own : j < only side count-of (array K q)
     counted-own = subst (λ n. j < n) (sym (only-on side count-of (array K q) own)) counted
 
@@ -233,8 +222,8 @@ module _ (K : Kernel) (reads : Reads K) where
   unfolding total
   total-cells side = cells-length side 0 (K .arrays)
 
-  pub tied : (m : List ℕ) → Tied K (world length-of K m) (world count-of K (laid-out K m))
-  unfolding world cell laid-out put-back
+  pub tied : (m : List ℕ) → Tied K (layout length-of K m) (layout count-of K (laid-out K m))
+  unfolding layout cell laid-out put-back
   tied m = record {
     sizes = λ q. refl;
     counts = λ q. refl;

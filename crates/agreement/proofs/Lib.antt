@@ -1,4 +1,4 @@
-pub mod Judge
+pub mod Lines
 pub mod Tested
 pub mod Exact
 pub mod Walks

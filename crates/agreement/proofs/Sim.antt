@@ -13,7 +13,7 @@ use Rattle.numbers.specs.Result.{Result, ok, stop}
 use Rattle.forms.specs.Form.{Form, value, constant, plus-one}
 use Rattle.forms.proofs.Values.{value-plus-one}
 use Rattle.kernel.specs.File.{Kernel, output, count-of}
-use Rattle.kernel.specs.Machine.{World, State, put, place, advance, cell, keep, Stuck, stuck}
+use Rattle.kernel.specs.Machine.{Layout, State, put, place, advance, cell, keep, Stuck, stuck}
 use Rattle.kernel.specs.Memory.{total, put-back}
 use Rattle.kernel.specs.Ledger.{held, Ledger, position, holding, passed, hold}
 
@@ -21,14 +21,14 @@ use Rattle.kernel.specs.Ledger.{held, Ledger, position, holding, passed, hold}
 abbrev pub content : State → ℕ → Option ℕ
 content s p = getD (s .registers) p (some 0)
 
-pub record Holding (e : World) (cs : List ℤ) (q : ℕ) (f : Form) (r : Option ℕ) : Type 0 where
+pub record Holding (e : Layout) (cs : List ℤ) (q : ℕ) (f : Form) (r : Option ℕ) : Type 0 where
   pub index : ℕ
   pub at : value f cs ≡ pos index
   pub inside : index < e .size q
   pub has : r ≡ some (cell e q index)
 
 -- rows are as long as they should be
-pub record Sized (K : Kernel) (L : Ledger) (x y : State) : Type 0 where
+pub record LengthsFit (K : Kernel) (L : Ledger) (x y : State) : Type 0 where
   pub array-registers : length (x .registers) ≡ 48
   pub stream-registers : length (y .registers) ≡ 48
   pub places : length (y .places) ≡ 8
@@ -36,9 +36,9 @@ pub record Sized (K : Kernel) (L : Ledger) (x y : State) : Type 0 where
   pub positions : length (L .positions) ≡ length (K .arrays)
   pub buffers : length (L .buffers) ≡ K .buffers
 
--- array run at x, stream run at y, the derivation's ledger L, the counters: e is the array run's world
-pub record Sim (K : Kernel) (e : World) (L : Ledger) (cs : List ℤ) (x y : State) : Type 0 where
-  pub sized : Sized K L x y
+-- array run at x, stream run at y, the derivation's ledger L, the counters: e is the array run's layout
+pub record Sim (K : Kernel) (e : Layout) (L : Ledger) (cs : List ℤ) (x y : State) : Type 0 where
+  pub sized : LengthsFit K L x y
   pub registers : (p : ℕ) → p < K .registers → content x p ≡ content y p
   pub places : (q : ℕ) → q < length (K .arrays) → value (position q L) cs ≡ pos (place q y)
   pub buffers : (b q : ℕ) (f : Form) → holding b L ≡ some (held q f) → Holding e cs q f (content y (K .registers + b))
@@ -49,7 +49,7 @@ abbrev pub Reason : ℕ → Type 0
 Reason r = (r ≡ 31) ⊎ (r ≡ 32)
 
 -- both end, in tied states; or both stick for one reason, with tied outputs
-pub data Related (K : Kernel) (e : World) (L : Ledger) (cs : List ℤ) : Result Stuck State → Result Stuck State → Type 0 where
+pub data Related (K : Kernel) (e : Layout) (L : Ledger) (cs : List ℤ) : Result Stuck State → Result Stuck State → Type 0 where
   both-end : {x y : State} → Sim K e L cs x y → Related K e L cs (ok x) (ok y)
   both-stick : {x y : State} {r i j : ℕ} → Reason r → x .output ≡ put-back K (y .output) → Related K e L cs (stop (stuck r i x)) (stop (stuck r j y))
 
@@ -67,7 +67,7 @@ module _ {A : Type 0} where
 
 -- ---- registers
 
-module _ {K : Kernel} {e : World} {cs : List ℤ} (few : K .registers + K .buffers ≤ 48) where
+module _ {K : Kernel} {e : Layout} {cs : List ℤ} (few : K .registers + K .buffers ≤ 48) where
   -- both set a register that is no buffer
   pub sim-put : {L : Ledger} {x y : State} (p w : ℕ) → p < K .registers → Sim K e L cs x y → Sim K e L cs (put p w x) (put p w y)
   unfolding put place
@@ -157,7 +157,7 @@ module _ {K : Kernel} {e : World} {cs : List ℤ} (few : K .registers + K .buffe
 -- ---- outputs
 
 -- the array run stores what the stream run writes, where putting back agrees
-pub sim-keep : {K : Kernel} {e : World} {L : Ledger} {cs : List ℤ} {x y : State} (e₂ : World) (q j i w : ℕ)
+pub sim-keep : {K : Kernel} {e : Layout} {L : Ledger} {cs : List ℤ} {x y : State} (e₂ : Layout) (q j i w : ℕ)
     → put-back K (set (y .output) (e₂ .base q + j) w) ≡ set (put-back K (y .output)) (e .base q + i) w
     → Sim K e L cs x y → Sim K e L cs (keep e q i w x) (keep e₂ q j w y)
 unfolding keep place
@@ -184,7 +184,7 @@ pub record SameValues (K : Kernel) (L : Ledger) (cs : List ℤ) (M : Ledger) (ds
   pub position-values : (q : ℕ) → q < length (K .arrays) → value (position q M) ds ≡ value (position q L) cs
   pub held-values : (b q : ℕ) (f : Form) → holding b M ≡ some (held q f) → (g : Form) × (holding b L ≡ some (held q g)) × (value f ds ≡ value g cs)
 
-pub sim-turn : {K : Kernel} {e : World} {L M : Ledger} {cs ds : List ℤ} {x y : State} → SameValues K L cs M ds → Sim K e L cs x y → Sim K e M ds x y
+pub sim-turn : {K : Kernel} {e : Layout} {L M : Ledger} {cs ds : List ℤ} {x y : State} → SameValues K L cs M ds → Sim K e L cs x y → Sim K e M ds x y
 sim-turn v s = record {
   sized = record {
     array-registers = s .sized .array-registers;

@@ -15,21 +15,21 @@ use Rattle.numbers.proofs.Order.{pos-lt}
 use Rattle.numbers.proofs.Tests.{index-inside}
 use Rattle.forms.specs.Form.{Form, value}
 use Rattle.forms.proofs.Values.{value-along}
-use Rattle.kernel.specs.File.{Kernel, input, output, length-of, first-of, count-of, step-of, index, array, Operator, add, subtract, multiply, divide, Op, copy, work, load, store, read, write}
+use Rattle.kernel.specs.File.{Kernel, input, output, side-of, length-of, first-of, count-of, step-of, index, array, Operator, add, subtract, multiply, divide, Op, copy, work, load, store, read, write}
 use Rattle.kernel.specs.File as File
-use Rattle.kernel.specs.Machine.{World, State, Around, word, get, put, place, advance, cell, keep, result, cell-number, perform, Stuck, stuck, step}
+use Rattle.kernel.specs.Machine.{Layout, State, Counters, word, get, put, place, advance, cell, keep, result, cell-number, perform, Stuck, stuck, step}
 use Rattle.kernel.specs.Memory.{total, put-back}
 use Rattle.kernel.specs.Ledger.{Held, held, Ledger, position, holding, next-index, passed, hold, read-step, write-step, fill-step, move-step}
-use Rattle.kernel.proofs.Orders.{Inside}
+use Rattle.kernel.specs.Guarantees.{Inside}
 use Rattle.agreement.proofs.Sim.{content, Holding, Sim, Related, both-end, both-stick, sim-put, sim-hold, sim-pass, sim-keep}
 
 -- how the two runs' memories lie: each item of a stream stands for a cell of its array
-pub record Tied (K : Kernel) (e e₂ : World) : Type 0 where
+pub record Tied (K : Kernel) (e e₂ : Layout) : Type 0 where
   pub sizes : (q : ℕ) → e .size q ≡ length-of (array K q)
   pub counts : (q : ℕ) → e₂ .size q ≡ count-of (array K q)
   pub items : (q j : ℕ) → q < length (K .arrays) → j < count-of (array K q) → Inside (length-of (array K q)) (index (array K q) j)
-  pub laid : (q j i : ℕ) → q < length (K .arrays) → array K q .code ≡ input → j < count-of (array K q) → index (array K q) j ≡ pos i → cell e₂ q j ≡ cell e q i
-  pub placed : (q j i w : ℕ) (m : List ℕ) → q < length (K .arrays) → array K q .code ≡ output → j < count-of (array K q) → index (array K q) j ≡ pos i
+  pub laid : (q j i : ℕ) → q < length (K .arrays) → side-of (array K q) ≡ input → j < count-of (array K q) → index (array K q) j ≡ pos i → cell e₂ q j ≡ cell e q i
+  pub placed : (q j i w : ℕ) (m : List ℕ) → q < length (K .arrays) → side-of (array K q) ≡ output → j < count-of (array K q) → index (array K q) j ≡ pos i
       → length m ≡ total output count-of K → put-back K (set m (e₂ .base q + j) w) ≡ set (put-back K m) (e .base q + i) w
 
 -- ---- tests that pass
@@ -40,13 +40,13 @@ unfolding cell-number need _>>=_
 cell-there reason n i z e h = ap (λ z. need reason (inside n z) >>= λ _. ok (natAbs z)) e ∙ ap (λ t. need reason t >>= λ _. ok i) (index-inside n i h)
 
 -- a step that does not stick
-done : (e : World) (n : ℕ) (o : Op) (c : Around) (s s′ : State) → perform e (c .counters) o s ≡ ok s′ → step e n o c s ≡ ok s′
+done : (e : Layout) (n : ℕ) (o : Op) (c : Counters) (s s′ : State) → perform e (c .values) o s ≡ ok s′ → step e n o c s ≡ ok s′
 unfolding step because
 done e n o c s s′ h = ap (because (λ reason. stuck reason n s)) h
 
 -- ---- registers that both runs use
 
-module _ {K : Kernel} {e : World} {L : Ledger} {cs : List ℤ} where
+module _ {K : Kernel} {e : Layout} {L : Ledger} {cs : List ℤ} where
   -- a register with the same content on both sides: unset, or a word
   both-use : (x y : State) (i j : ℕ) (u v : Option ℕ) (g g′ : ℕ → Result ℕ State) → u ≡ v → x .output ≡ put-back K (y .output)
       → ((w : ℕ) → Related K e L cs (because (λ r. stuck r i x) (g w)) (because (λ r. stuck r j y) (g′ w)))
@@ -71,14 +71,14 @@ module _ {K : Kernel} {e : World} {L : Ledger} {cs : List ℤ} where
 
 -- ---- the rules
 
-module _ {K : Kernel} {e e₂ : World} (tied : Tied K e e₂) (few : K .registers + K .buffers ≤ 48) (few-arrays : length (K .arrays) ≤ 8) (c : Around) {L : Ledger} {x y : State} (s : Sim K e L (c .counters) x y) where
+module _ {K : Kernel} {e e₂ : Layout} (tied : Tied K e e₂) (few : K .registers + K .buffers ≤ 48) (few-arrays : length (K .arrays) ≤ 8) (c : Counters) {L : Ledger} {x y : State} (s : Sim K e L (c .values) x y) where
   abbrev Kept : Ledger → Result Stuck State → Result Stuck State → Type 0
-  Kept M a b = Related K e M (c .counters) a b
+  Kept M a b = Related K e M (c .values) a b
 
   -- rule 1: a set, a copy, an operation
   pub keep-set : (i j p : ℕ) (f : Form) → p < K .registers → Kept L (step e i (File.set p f) c x) (step e₂ j (File.set p f) c y)
   unfolding step perform because
-  keep-set i j p f h = both-end (sim-put few p (low32 (value f (c .counters))) h s)
+  keep-set i j p f h = both-end (sim-put few p (low32 (value f (c .values))) h s)
 
   pub keep-copy : (i j p q : ℕ) → p < K .registers → q < K .registers → Kept L (step e i (copy p q) c x) (step e₂ j (copy p q) c y)
   unfolding step perform get because
@@ -98,9 +98,9 @@ module _ {K : Kernel} {e e₂ : World} (tied : Tied K e e₂) (few : K .register
   pub record Next-item (q : ℕ) (f : Form) : Type 0 where
     pub there : place q y < count-of (array K q)
     pub spot : Inside (length-of (array K q)) (index (array K q) (place q y))
-    pub value-is : value f (c .counters) ≡ pos (spot .at)
+    pub value-is : value f (c .values) ≡ pos (spot .at)
 
-  pub next-item : (q : ℕ) → q < length (K .arrays) → value (position q L) (c .counters) <ℤ pos (count-of (array K q)) → Next-item q (next-index K q L)
+  pub next-item : (q : ℕ) → q < length (K .arrays) → value (position q L) (c .values) <ℤ pos (count-of (array K q)) → Next-item q (next-index K q L)
   unfolding next-index index
   next-item q h b =
       let there : place q y < count-of (array K q) = pos-lt (subst (λ z. z <ℤ pos (count-of (array K q))) (s .places q h) b) in
@@ -108,41 +108,41 @@ module _ {K : Kernel} {e e₂ : World} (tied : Tied K e e₂) (few : K .register
       record {
         there = there;
         spot = spot;
-        value-is = value-along (first-of (array K q)) (step-of (array K q)) (position q L) (c .counters) ∙ ap (λ z. first-of (array K q) +ℤ step-of (array K q) *ℤ z) (s .places q h) ∙ spot .is;
+        value-is = value-along (first-of (array K q)) (step-of (array K q)) (position q L) (c .values) ∙ ap (λ z. first-of (array K q) +ℤ step-of (array K q) *ℤ z) (s .places q h) ∙ spot .is;
       }
 
   -- the stream's read of that item
-  read-done : (q p : ℕ) {f : Form} → Next-item q f → perform e₂ (c .counters) (read p q) y ≡ ok (advance q (put p (cell e₂ q (place q y)) y))
+  read-done : (q p : ℕ) {f : Form} → Next-item q f → perform e₂ (c .values) (read p q) y ≡ ok (advance q (put p (cell e₂ q (place q y)) y))
   unfolding perform _>>=_
   read-done q p n = ap (λ r. r >>= λ i. ok (advance q (put p (cell e₂ q i) y))) (cell-there 34 (e₂ .size q) (place q y) (pos (place q y)) refl (subst (λ n. place q y < n) (sym (tied .counts q)) (n .there)))
 
   -- the array's load of that cell
-  load-done : (q p i : ℕ) (f : Form) → value f (c .counters) ≡ pos i → i < length-of (array K q) → perform e (c .counters) (load p q f) x ≡ ok (put p (cell e q i) x)
+  load-done : (q p i : ℕ) (f : Form) → value f (c .values) ≡ pos i → i < length-of (array K q) → perform e (c .values) (load p q f) x ≡ ok (put p (cell e q i) x)
   unfolding perform _>>=_
-  load-done q p i f v l = ap (λ r. r >>= λ i. ok (put p (cell e q i) x)) (cell-there 33 (e .size q) i (value f (c .counters)) v (subst (λ n. i < n) (sym (tied .sizes q)) l))
+  load-done q p i f v l = ap (λ r. r >>= λ i. ok (put p (cell e q i) x)) (cell-there 33 (e .size q) i (value f (c .values)) v (subst (λ n. i < n) (sym (tied .sizes q)) l))
 
   -- rule 2
-  pub keep-read : (i j p q : ℕ) (f : Form) → p < K .registers → q < length (K .arrays) → array K q .code ≡ input
-      → value (position q L) (c .counters) <ℤ pos (count-of (array K q)) → f ≡ next-index K q L
+  pub keep-read : (i j p q : ℕ) (f : Form) → p < K .registers → q < length (K .arrays) → side-of (array K q) ≡ input
+      → value (position q L) (c .values) <ℤ pos (count-of (array K q)) → value f (c .values) ≡ value (next-index K q L) (c .values)
       → Kept (read-step q L) (step e i (load p q f) c x) (step e₂ j (read p q) c y)
   unfolding read-step
   keep-read i j p q f hp hq side b z =
       let n = next-item q hq b in
-      let at : value f (c .counters) ≡ pos (n .spot .at) = ap (λ f. value f (c .counters)) z ∙ n .value-is in
+      let at : value f (c .values) ≡ pos (n .spot .at) = z ∙ n .value-is in
       let same-cell : cell e₂ q (place q y) ≡ cell e q (n .spot .at) = tied .laid q (place q y) (n .spot .at) hq side (n .there) (n .spot .is) in
       subst₂ (Kept (passed q L)) (sym (done e i (load p q f) c x _ (load-done q p (n .spot .at) f at (n .spot .below))))
       (sym (done e₂ j (read p q) c y _ (read-done q p n ∙ ap (λ w. ok (advance q (put p w y))) same-cell)))
       (both-end (sim-pass few q hq few-arrays (sim-put few p (cell e q (n .spot .at)) hp s)))
 
   -- rule 3: the stream run alone
-  pub keep-fill : (j b q : ℕ) → b < K .buffers → q < length (K .arrays) → array K q .code ≡ input
-      → value (position q L) (c .counters) <ℤ pos (count-of (array K q))
+  pub keep-fill : (j b q : ℕ) → b < K .buffers → q < length (K .arrays) → side-of (array K q) ≡ input
+      → value (position q L) (c .values) <ℤ pos (count-of (array K q))
       → Kept (fill-step K b q L) (ok x) (step e₂ j (read (K .registers + b) q) c y)
   unfolding fill-step
   keep-fill j b q hb hq side below =
       let n = next-item q hq below in
       let same-cell : cell e₂ q (place q y) ≡ cell e q (n .spot .at) = tied .laid q (place q y) (n .spot .at) hq side (n .there) (n .spot .is) in
-      let holds : Holding e (c .counters) q (next-index K q L) (some (cell e q (n .spot .at))) = record {
+      let holds : Holding e (c .values) q (next-index K q L) (some (cell e q (n .spot .at))) = record {
         index = n .spot .at;
         at = n .value-is;
         inside = subst (λ k. n .spot .at < k) (sym (tied .sizes q)) (n .spot .below);
@@ -153,16 +153,16 @@ module _ {K : Kernel} {e e₂ : World} (tied : Tied K e e₂) (few : K .register
       (both-end (sim-pass few q hq few-arrays (sim-hold few b q (next-index K q L) (cell e q (n .spot .at)) hb holds s)))
 
   -- a copy of a buffer that holds something
-  copy-done : (p b w : ℕ) → content y (K .registers + b) ≡ some w → perform e₂ (c .counters) (copy p (K .registers + b)) y ≡ ok (put p w y)
+  copy-done : (p b w : ℕ) → content y (K .registers + b) ≡ some w → perform e₂ (c .values) (copy p (K .registers + b)) y ≡ ok (put p w y)
   unfolding perform get word _>>=_
   copy-done p b w h = ap (λ u. word u >>= λ w. ok (put p w y)) h
 
   -- rule 4
-  pub keep-use : (i j p b q : ℕ) (f : Form) → p < K .registers → holding b L ≡ some (held q f)
+  pub keep-use : (i j p b q : ℕ) (f g : Form) → p < K .registers → holding b L ≡ some (held q g) → value f (c .values) ≡ value g (c .values)
       → Kept L (step e i (load p q f) c x) (step e₂ j (copy p (K .registers + b)) c y)
-  keep-use i j p b q f hp h =
-      let held-there = s .buffers b q f h in
-      subst₂ (Kept L) (sym (done e i (load p q f) c x _ (load-done q p (held-there .index) f (held-there .at) (subst (λ k. held-there .index < k) (tied .sizes q) (held-there .inside)))))
+  keep-use i j p b q f g hp h z =
+      let held-there = s .buffers b q g h in
+      subst₂ (Kept L) (sym (done e i (load p q f) c x _ (load-done q p (held-there .index) f (z ∙ held-there .at) (subst (λ k. held-there .index < k) (tied .sizes q) (held-there .inside)))))
       (sym (done e₂ j (copy p (K .registers + b)) c y _ (copy-done p b (cell e q (held-there .index)) (held-there .has))))
       (both-end (sim-put few p (cell e q (held-there .index)) hp s))
 
@@ -177,15 +177,15 @@ module _ {K : Kernel} {e e₂ : World} (tied : Tied K e e₂) (few : K .register
       (both-end (sim-hold few to q f (cell e q (held-there .index)) l (record { index = held-there .index; at = held-there .at; inside = held-there .inside; has = refl }) s))
 
   -- rule 6
-  pub keep-write : (i j p q : ℕ) (f : Form) → p < K .registers → q < length (K .arrays) → array K q .code ≡ output
-      → value (position q L) (c .counters) <ℤ pos (count-of (array K q)) → f ≡ next-index K q L
+  pub keep-write : (i j p q : ℕ) (f : Form) → p < K .registers → q < length (K .arrays) → side-of (array K q) ≡ output
+      → value (position q L) (c .values) <ℤ pos (count-of (array K q)) → value f (c .values) ≡ value (next-index K q L) (c .values)
       → Kept (write-step q L) (step e i (store p q f) c x) (step e₂ j (write p q) c y)
   unfolding write-step step perform get
   keep-write i j p q f hp hq side b z =
       let n = next-item q hq b in
-      let at : value f (c .counters) ≡ pos (n .spot .at) = ap (λ f. value f (c .counters)) z ∙ n .value-is in
-      let stored : (w : ℕ) → (cell-number 33 (e .size q) (value f (c .counters)) >>= λ i. ok (keep e q i w x)) ≡ ok (keep e q (n .spot .at) w x) = λ w.
-      bound (λ i. ok (keep e q i w x)) (cell-there 33 (e .size q) (n .spot .at) (value f (c .counters)) at (subst (λ k. n .spot .at < k) (sym (tied .sizes q)) (n .spot .below))) in
+      let at : value f (c .values) ≡ pos (n .spot .at) = z ∙ n .value-is in
+      let stored : (w : ℕ) → (cell-number 33 (e .size q) (value f (c .values)) >>= λ i. ok (keep e q i w x)) ≡ ok (keep e q (n .spot .at) w x) = λ w.
+      bound (λ i. ok (keep e q i w x)) (cell-there 33 (e .size q) (n .spot .at) (value f (c .values)) at (subst (λ k. n .spot .at < k) (sym (tied .sizes q)) (n .spot .below))) in
       let written : (w : ℕ) → (cell-number 35 (e₂ .size q) (pos (place q y)) >>= λ i. ok (advance q (keep e₂ q i w y))) ≡ ok (advance q (keep e₂ q (place q y) w y)) = λ w.
       bound (λ i. ok (advance q (keep e₂ q i w y))) (cell-there 35 (e₂ .size q) (place q y) (pos (place q y)) refl (subst (λ k. place q y < k) (sym (tied .counts q)) (n .there))) in
       both-use x y i j (content x p) (content y p) _ _ (s .registers p hp) (s .outputs) λ w.
@@ -195,5 +195,5 @@ module _ {K : Kernel} {e e₂ : World} (tied : Tied K e e₂) (few : K .register
       bound : {A : Type 0} {r : Result ℕ A} {a : A} (g : A → Result ℕ State) → r ≡ ok a → (r >>= g) ≡ g a
       bound g h = unfold _>>=_ in ap (λ r. r >>= g) h
 
-      kept-both : {M : Ledger} {u v : State} → Sim K e M (c .counters) u v → Kept M (because (λ r. stuck r i x) (ok u)) (because (λ r. stuck r j y) (ok v))
+      kept-both : {M : Ledger} {u v : State} → Sim K e M (c .values) u v → Kept M (because (λ r. stuck r i x) (ok u)) (because (λ r. stuck r j y) (ok v))
       kept-both h = unfold because in both-end h

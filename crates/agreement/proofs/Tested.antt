@@ -1,7 +1,7 @@
--- The check's tests say what the rules say: each test of a rule holds exactly where the rule's condition does.
-use mathlib.Core.Path.{_≡_, refl, sym, ap, ap₂, subst}
-use mathlib.Core.Bool.{Bool, true, false, _&&_, false≢true}
-use mathlib.Core.List.{List, [], _∷_, map}
+-- The check's tests say what the rules say: each test of a rule holds exactly where what the rule asks does.
+use mathlib.Core.Path.{_≡_, refl, sym, ap, subst}
+use mathlib.Core.Bool.{true, _&&_, false≢true}
+use mathlib.Core.List.{List, [], _∷_}
 use mathlib.Core.Option.{Option, none, some}
 use Prim.Native.Nat.{ℕ, zero, suc, _≤_}
 use lib.Dec.{eqb}
@@ -11,69 +11,68 @@ use borrow.Author.Tests.{eqb-true, eq-eqb, leb-true, le-leb}
 use Rattle.numbers.specs.Lists.{alike}
 use Rattle.numbers.specs.Words.{between}
 use Rattle.numbers.proofs.Tests.{and-left, and-right, and-true, each-of, between-range, range-between, alike-eq, eq-alike, alike-pairwise, pairwise-alike}
-use Rattle.forms.specs.Form.{Form, constant, around, same}
-use Rattle.forms.proofs.Same.{same-eq, eq-same, around-says, says-around}
-use Rattle.kernel.specs.File.{Rec, numbers, form, Kernel, count-of, sets, copies, works, loads, stores, reads, writes, fors, ifs, elses, ends}
+use Rattle.forms.specs.Form.{constant, around, same, Loop, Equal}
+use Rattle.forms.proofs.Same.{same-equal, equal-same, around-says, says-around}
+use Rattle.kernel.specs.File.{Rec, numbers, form, Kernel, count-of, sets, copies, works, loads, stores, reads, writes, fors, ifs, elses, ends, position-row, buffer-row}
 use Rattle.kernel.specs.Ledger.{Held, held, Ledger, holds-just, same-positions, row-true, rows-true}
-use Rattle.kernel.specs.Stand.{Stand, loops, hold-rows, Rule, same-rule, read-rule, fill-rule, use-rule, move-rule, write-rule, for-rule, if-rule, else-rule, end-rule, no-rule}
+use Rattle.kernel.specs.Derivation.{Place, loops, hold-rows, Rule, same-rule, read-rule, fill-rule, use-rule, move-rule, write-rule, for-rule, if-rule, else-rule, end-rule, no-rule}
 use Rattle.kernel.specs.Check.{codes, same-p, same-pq, same-pqk, identical, is-buffer, something, in-order, rows-fit, fits, all-counted}
-use Rattle.kernel.specs.Rules.{Rows, over, row, RowTrue, says-nothing, says-so, RowsTrue, Fits}
+use Rattle.kernel.specs.Rules.{Rows, over, row, Holds, holds, PositionsEqual, RowTrue, says-nothing, says-so, RowsTrue, AllCounted, Line, _unless_then_, gives, never, line}
 
 -- ---- held buffers
 
-pub just-eq : (h : Held) (g : Option Held) → holds-just h g ≡ true → g ≡ some h
-unfolding holds-just
-just-eq (held q f) none h = absurd (false≢true h)
-just-eq (held q f) (some (held q′ f′)) h =
-    λ i. some (held (sym (eqb-true q q′ (and-left (eqb q q′) (same f f′) h)) i) (sym (same-eq f f′ (and-right (eqb q q′) (same f f′) h)) i))
+module _ {around : List Loop} where
+  pub just-says : (h : Held) (g : Option Held) → holds-just around h g ≡ true → Holds around h g
+  unfolding holds-just
+  just-says (held q f) none h = absurd (false≢true h)
+  just-says (held q f) (some (held q′ f′)) h =
+      subst (λ q′. Holds around (held q f) (some (held q′ f′))) (eqb-true q q′ (and-left (eqb q q′) (same around f f′) h))
+      (holds (same-equal around f f′ (and-right (eqb q q′) (same around f f′) h)))
 
-just-self : (h : Held) → holds-just h (some h) ≡ true
-unfolding holds-just
-just-self (held q f) = and-true (eq-eqb q q refl) (eq-same refl)
-
-pub eq-just : (h : Held) {g : Option Held} → g ≡ some h → holds-just h g ≡ true
-eq-just h e = subst (λ g. holds-just h g ≡ true) (sym e) (just-self h)
+  pub says-just : (h : Held) (g : Option Held) → Holds around h g → holds-just around h g ≡ true
+  unfolding holds-just
+  says-just h g (holds {q} e) = and-true (eq-eqb q q refl) (equal-same e)
 
 pub something-says : (g : Option Held) → something g ≡ true → (h : Held) × (g ≡ some h)
 unfolding something
 something-says none e = absurd (false≢true e)
 something-says (some h) e = (h, refl)
 
-pub nothing-says : (g : Option Held) → something g ≡ false → g ≡ none
+pub says-something : (g : Option Held) → (h : Held) × (g ≡ some h) → something g ≡ true
 unfolding something
-nothing-says none e = refl
-nothing-says (some h) e = absurd (mathlib.Core.Bool.true≢false e)
+says-something g (h, e) = ap something e
 
 -- ---- rows that are true of a ledger
 
-row-says : (r g : Option Held) → row-true r g ≡ true → RowTrue r g
-unfolding row-true
-row-says none g h = says-nothing
-row-says (some r) g h = subst (λ g. RowTrue (some r) g) (sym (just-eq r g h)) says-so
+module _ (around : List Loop) where
+  row-says : (r g : Option Held) → row-true around r g ≡ true → RowTrue around r g
+  unfolding row-true
+  row-says none g h = says-nothing
+  row-says (some r) g h = says-so (just-says r g h)
 
-says-row : (r g : Option Held) → RowTrue r g → row-true r g ≡ true
-unfolding row-true
-says-row r g says-nothing = refl
-says-row r g (says-so {h}) = just-self h
+  says-row : (r g : Option Held) → RowTrue around r g → row-true around r g ≡ true
+  unfolding row-true
+  says-row r g says-nothing = refl
+  says-row r g (says-so {r = h} so) = says-just h g so
 
-pub positions-eq : (L M : Ledger) → same-positions L M ≡ true → L .positions ≡ M .positions
-unfolding same-positions
-positions-eq L M h = alike-eq same same-eq (L .positions) (M .positions) h
+  pub positions-say : (L M : Ledger) → same-positions around L M ≡ true → PositionsEqual around L M
+  unfolding same-positions
+  positions-say L M h = alike-pairwise (same around) (Equal around) (same-equal around) (L .positions) (M .positions) h
 
-pub eq-positions : (L M : Ledger) → L .positions ≡ M .positions → same-positions L M ≡ true
-unfolding same-positions
-eq-positions L M e = eq-alike same (λ f. eq-same refl) e
+  pub say-positions : (L M : Ledger) → PositionsEqual around L M → same-positions around L M ≡ true
+  unfolding same-positions
+  say-positions L M e = pairwise-alike (same around) (Equal around) (λ f g. equal-same) e
 
-pub rows-say : (rows L : Ledger) → rows-true rows L ≡ true → RowsTrue rows L
-unfolding rows-true
-rows-say rows L h = record {
-  positions = positions-eq rows L (and-left (same-positions rows L) (alike row-true (rows .buffers) (L .buffers)) h);
-  buffers = alike-pairwise row-true RowTrue row-says (rows .buffers) (L .buffers) (and-right (same-positions rows L) (alike row-true (rows .buffers) (L .buffers)) h);
-}
+  pub rows-say : (rows L : Ledger) → rows-true around rows L ≡ true → RowsTrue around rows L
+  unfolding rows-true
+  rows-say rows L h = record {
+    positions = positions-say rows L (and-left (same-positions around rows L) (alike (row-true around) (rows .buffers) (L .buffers)) h);
+    buffers = alike-pairwise (row-true around) (RowTrue around) row-says (rows .buffers) (L .buffers) (and-right (same-positions around rows L) (alike (row-true around) (rows .buffers) (L .buffers)) h);
+  }
 
-pub say-rows : (rows L : Ledger) → RowsTrue rows L → rows-true rows L ≡ true
-unfolding rows-true
-say-rows rows L r = and-true (eq-positions rows L (r .positions)) (pairwise-alike row-true RowTrue says-row (r .buffers))
+  pub say-rows : (rows L : Ledger) → RowsTrue around rows L → rows-true around rows L ≡ true
+  unfolding rows-true
+  say-rows rows L r = and-true (say-positions rows L (r .positions)) (pairwise-alike (row-true around) (RowTrue around) says-row (r .buffers))
 
 -- ---- hold rows
 
@@ -153,24 +152,15 @@ says-buffer : (K : Kernel) (p : ℕ) → K .registers ≤ p → is-buffer K p �
 unfolding is-buffer
 says-buffer K p h = le-leb (K .registers) p h
 
--- ---- what a rule asks of them; an else and an end ask more, by the block that they close
+-- ---- what a rule asks of them, first of all
 
--- without what an else or an end asks of the open blocks
-abbrev pub FitsHere : Kernel → Stand → Rule → (a s : Rec) → Type 0
-FitsHere K c same-rule a s = Fits K c same-rule a s
-FitsHere K c read-rule a s = Fits K c read-rule a s
-FitsHere K c fill-rule a s = Fits K c fill-rule a s
-FitsHere K c use-rule a s = Fits K c use-rule a s
-FitsHere K c move-rule a s = Fits K c move-rule a s
-FitsHere K c write-rule a s = Fits K c write-rule a s
-FitsHere K c for-rule a s = Fits K c for-rule a s
-FitsHere K c if-rule a s = Fits K c if-rule a s
-FitsHere K c else-rule a s = (a .code ≡ elses) × (s .code ≡ elses)
-FitsHere K c end-rule a s = (a .code ≡ ends) × (s .code ≡ ends)
-FitsHere K c no-rule a s = ⊥
+abbrev pub FirstAsked : Line → Type 0
+FirstAsked (n unless what then rest) = what
+FirstAsked (gives d) = Unit
+FirstAsked (never n) = ⊥
 
-pub fits-says : (K : Kernel) (c : Stand) (r : Rule) (a s : Rec) → fits K c r a s ≡ true → FitsHere K c r a s
-unfolding fits rows-fit
+pub fits-says : (K : Kernel) (c : Place) (r : Rule) (a s : Rec) → fits K c r a s ≡ true → FirstAsked (line K c r a s)
+unfolding fits rows-fit line
 fits-says K c same-rule a s h =
     let (low, high) = between-range sets works (a .code) (and-left (between sets works (a .code)) (identical a s) h) in
     (low, high, identical-says a s (and-right (between sets works (a .code)) (identical a s) h))
@@ -192,8 +182,8 @@ fits-says K c write-rule a s h =
     let (p, q) = pq-says a s (and-right (codes stores writes a s) (same-pq a s) h) in
     (x, y, p, q)
 fits-says K c for-rule a s h =
-    let t = each-of (codes fors fors a s) (same-pqk a s ∷ (in-order 11 (suc (length (loops (c .opened)))) 0 (length (K .arrays)) (hold-rows K c) && in-order 12 (suc (length (loops (c .opened)))) 0 (K .buffers) (drop (length (K .arrays)) (hold-rows K c))) ∷ []) h in
-    let u = each-of (in-order 11 (suc (length (loops (c .opened)))) 0 (length (K .arrays)) (hold-rows K c)) (in-order 12 (suc (length (loops (c .opened)))) 0 (K .buffers) (drop (length (K .arrays)) (hold-rows K c)) ∷ []) (t 2) in
+    let t = each-of (codes fors fors a s) (same-pqk a s ∷ (in-order position-row (suc (length (loops (c .opened)))) 0 (length (K .arrays)) (hold-rows K c) && in-order buffer-row (suc (length (loops (c .opened)))) 0 (K .buffers) (drop (length (K .arrays)) (hold-rows K c))) ∷ []) h in
+    let u = each-of (in-order position-row (suc (length (loops (c .opened)))) 0 (length (K .arrays)) (hold-rows K c)) (in-order buffer-row (suc (length (loops (c .opened)))) 0 (K .buffers) (drop (length (K .arrays)) (hold-rows K c)) ∷ []) (t 2) in
     let (x, y) = codes-say fors fors a s (t 0) in
     let (p, q, k) = pqk-says a s (t 1) in (
       x,
@@ -202,8 +192,8 @@ fits-says K c for-rule a s h =
       q,
       k,
       record {
-        positions = order-says 11 (suc (length (loops (c .opened)))) 0 (length (K .arrays)) (hold-rows K c) (u 0);
-        buffers = order-says 12 (suc (length (loops (c .opened)))) 0 (K .buffers) (drop (length (K .arrays)) (hold-rows K c)) (u 1);
+        positions = order-says position-row (suc (length (loops (c .opened)))) 0 (length (K .arrays)) (hold-rows K c) (u 0);
+        buffers = order-says buffer-row (suc (length (loops (c .opened)))) 0 (K .buffers) (drop (length (K .arrays)) (hold-rows K c)) (u 1);
       },
     )
 fits-says K c if-rule a s h =
@@ -213,8 +203,8 @@ fits-says K c else-rule a s h = codes-say elses elses a s h
 fits-says K c end-rule a s h = codes-say ends ends a s h
 fits-says K c no-rule a s h = absurd (false≢true h)
 
-pub says-fits : (K : Kernel) (c : Stand) (r : Rule) (a s : Rec) → FitsHere K c r a s → fits K c r a s ≡ true
-unfolding fits rows-fit
+pub says-fits : (K : Kernel) (c : Place) (r : Rule) (a s : Rec) → FirstAsked (line K c r a s) → fits K c r a s ≡ true
+unfolding fits rows-fit line
 says-fits K c same-rule a s (low, high, e) = and-true (range-between sets works (a .code) low high) (says-identical a s e)
 says-fits K c read-rule a s (x, y, p, q) = and-true (say-codes loads reads a s x y) (says-pq a s p q)
 says-fits K c fill-rule a s (x, p) = and-true (eq-eqb (s .code) reads x) (says-buffer K (s .p) p)
@@ -222,7 +212,7 @@ says-fits K c use-rule a s (x, y, p, q) = and-true (and-true (say-codes loads co
 says-fits K c move-rule a s (x, p, q) = and-true (and-true (eq-eqb (s .code) copies x) (says-buffer K (s .p) p)) (says-buffer K (s .q) q)
 says-fits K c write-rule a s (x, y, p, q) = and-true (say-codes stores writes a s x y) (says-pq a s p q)
 says-fits K c for-rule a s (x, y, p, q, k, r) =
-    and-true (and-true (say-codes fors fors a s x y) (says-pqk a s p q k)) (and-true (says-order 11 (suc (length (loops (c .opened)))) (r .positions)) (says-order 12 (suc (length (loops (c .opened)))) (r .buffers)))
+    and-true (and-true (say-codes fors fors a s x y) (says-pqk a s p q k)) (and-true (says-order position-row (suc (length (loops (c .opened)))) (r .positions)) (says-order buffer-row (suc (length (loops (c .opened)))) (r .buffers)))
 says-fits K c if-rule a s (x, y, p) = and-true (say-codes ifs ifs a s x y) (says-p a s p)
 says-fits K c else-rule a s (x, y) = say-codes elses elses a s x y
 says-fits K c end-rule a s (x, y) = say-codes ends ends a s x y
@@ -230,27 +220,11 @@ says-fits K c no-rule a s h = absurd h
 
 -- ---- every stream's position is its count
 
-counted-says : (xs : List Rec) (fs : List Form) → alike (λ a f. same (constant (pos (count-of a))) f) xs fs ≡ true → map (λ a. constant (pos (count-of a))) xs ≡ fs
-unfolding alike
-counted-says [] [] h = refl
-counted-says [] (f ∷ fs) h = absurd (false≢true h)
-counted-says (a ∷ xs) [] h = absurd (false≢true h)
-counted-says (a ∷ xs) (f ∷ fs) h =
-    ap₂ _∷_ (same-eq (constant (pos (count-of a))) f (and-left (same (constant (pos (count-of a))) f) (alike (λ a f. same (constant (pos (count-of a))) f) xs fs) h))
-    (counted-says xs fs (and-right (same (constant (pos (count-of a))) f) (alike (λ a f. same (constant (pos (count-of a))) f) xs fs) h))
-
-says-counted : (xs : List Rec) {fs : List Form} → map (λ a. constant (pos (count-of a))) xs ≡ fs → alike (λ a f. same (constant (pos (count-of a))) f) xs fs ≡ true
-unfolding alike
-says-counted xs e = subst (λ fs. alike (λ a f. same (constant (pos (count-of a))) f) xs fs ≡ true) e (self xs)
-  where
-    self : (xs : List Rec) → alike (λ a f. same (constant (pos (count-of a))) f) xs (map (λ a. constant (pos (count-of a))) xs) ≡ true
-    self [] = refl
-    self (a ∷ xs) = and-true (eq-same refl) (self xs)
-
-pub all-counted-says : (K : Kernel) (L : Ledger) → all-counted K L ≡ true → map (λ a. constant (pos (count-of a))) (K .arrays) ≡ L .positions
+pub all-counted-says : (K : Kernel) (c : Place) → all-counted K (c .ledger) ≡ true → AllCounted K c
 unfolding all-counted
-all-counted-says K L h = counted-says (K .arrays) (L .positions) h
+all-counted-says K c h =
+    alike-pairwise (λ a f. same [] (constant (pos (count-of a))) f) (λ a f. Equal [] (constant (pos (count-of a))) f) (λ a f. same-equal [] (constant (pos (count-of a))) f) (K .arrays) (c .ledger .positions) h
 
-pub says-all-counted : (K : Kernel) (L : Ledger) → map (λ a. constant (pos (count-of a))) (K .arrays) ≡ L .positions → all-counted K L ≡ true
+pub says-all-counted : (K : Kernel) (c : Place) → AllCounted K c → all-counted K (c .ledger) ≡ true
 unfolding all-counted
-says-all-counted K L e = says-counted (K .arrays) e
+says-all-counted K c e = pairwise-alike (λ a f. same [] (constant (pos (count-of a))) f) (λ a f. Equal [] (constant (pos (count-of a))) f) (λ a f. equal-same) e

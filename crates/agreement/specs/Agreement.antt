@@ -6,6 +6,7 @@ use Prim.Native.Nat.{ℕ, _*_}
 use lib.ListN.{length}
 use Rattle.numbers.specs.Result.{ok}
 use Rattle.numbers.specs.Words.{words}
+use Rattle.kernel.specs.Numbers.{unset, zero-divisor, index-outside, stream-empty, stream-full}
 use Rattle.kernel.specs.File.{Kernel, input, output, length-of, count-of}
 use Rattle.kernel.specs.Reading.{read-file}
 use Rattle.kernel.specs.Memory.{total, laid-out, put-back, Ending, ended, sticks, Ran, array-ran, stream-ran}
@@ -14,7 +15,7 @@ use Rattle.kernel.specs.Measured.{smooth}
 
 -- "the same reason (31 or 32)": an unset register, a zero divisor
 abbrev pub Reason : ℕ → Type 0
-Reason reason = (reason ≡ 31) ⊎ (reason ≡ 32)
+Reason reason = (reason ≡ unset) ⊎ (reason ≡ zero-divisor)
 
 -- one run sticks for such a reason, and the other for the same
 abbrev pub SticksAlike : (one other : Ending) → Type 0
@@ -41,9 +42,9 @@ Agreement = (file memory : List ℕ) (K : Kernel) → read-file file ≡ ok K �
 -- ---- what follows from it: of an accepted file's runs no load or store is outside its array, and no stream runs dry or over
 
 pub record NeverOutside (array stream : Ran) : Type 0 where
-  pub inside : (n : ℕ) → array .ending ≡ sticks 33 n → ⊥
-  pub not-dry : (n : ℕ) → stream .ending ≡ sticks 34 n → ⊥
-  pub not-over : (n : ℕ) → stream .ending ≡ sticks 35 n → ⊥
+  pub inside : (n : ℕ) → array .ending ≡ sticks index-outside n → ⊥
+  pub not-dry : (n : ℕ) → stream .ending ≡ sticks stream-empty n → ⊥
+  pub not-over : (n : ℕ) → stream .ending ≡ sticks stream-full n → ⊥
 
 abbrev pub Safety : Type 0
 Safety = (file memory : List ℕ) (K : Kernel) → read-file file ≡ ok K → check file ≡ accepted → length memory ≡ 4 * total input length-of K

@@ -8,10 +8,11 @@ use lib.ListN.{length}
 use Rattle.numbers.specs.Result.{Result, ok, stop}
 use Rattle.kernel.specs.File.{Rec, Kernel, output, length-of, count-of}
 use Rattle.kernel.specs.Reading.{read-file}
-use Rattle.kernel.specs.Blocks.{Block, stops, plain, loop, branch, tree}
-use Rattle.kernel.specs.Machine.{World, State, Around, get, Stuck, step, choose, in-pass, repeat, run}
+use Rattle.kernel.specs.Blocks.{Block, stops, plain, loop, branch}
+use Rattle.kernel.specs.Machine.{Layout, State, Counters, get, Stuck, step, choose, in-pass, repeat, run}
+use Rattle.kernel.specs.Trees.{tree}
 use Rattle.kernel.specs.Memory.{total, outside, array-ran, stream-ran}
-use Rattle.kernel.specs.Stand.{beginning}
+use Rattle.kernel.specs.Derivation.{beginning}
 use Rattle.kernel.specs.Check.{walk, check-kernel}
 use Rattle.kernel.specs.Answers.{decimal}
 
@@ -43,7 +44,7 @@ unfoldable pub chosen-steps : Result ℕ ℕ → (then other : ℕ) → ℕ
 chosen-steps (ok w) then other = cond (eqb w 0) other then
 chosen-steps (stop e) then other = 0
 
-unfoldable pub steps : World → Block → Around → State → ℕ
+unfoldable pub steps : Layout → Block → Counters → State → ℕ
 steps e (stops n) c s = 0
 steps e (plain n o rest) c s = suc (after (step e n o c s) (λ s. steps e rest c s))
 steps e (loop n l body rest) c s =
@@ -62,7 +63,7 @@ allowed (branch n p then other rest) = suc (allowed then + allowed other + allow
 
 -- no more than they allow, and that is at most 65,536 times each statement of the program
 pub record FewSteps (K : Kernel) (program : List Rec) : Type 0 where
-  pub as-allowed : (e : World) (s : State) → steps e (tree program) outside s ≤ allowed (tree program)
+  pub as-allowed : (e : Layout) (s : State) → steps e (tree program) outside s ≤ allowed (tree program)
   pub each-few : allowed (tree program) ≤ 65536 * length program
 
 -- ---- the whole

@@ -9,17 +9,17 @@ use Rattle.numbers.specs.Words.{words, bytes}
 use Rattle.kernel.specs.File.{Kernel}
 use Rattle.kernel.specs.Reading.{Fault, read-file}
 use Rattle.kernel.specs.Memory as Memory
-use Rattle.kernel.specs.Memory.{on-areas, left}
-use Rattle.runs.specs.declared.Done.{Done}
-use Rattle.runs.specs.declared.Done.the-variants.{Refused, Finished}
-use Rattle.runs.specs.View.{Told, told, finished, done}
-use Rattle.runs.proofs.Calls.{call-reads, both-right}
+use Rattle.kernel.specs.Memory.{on-areas, afterwards}
+use Rattle.run_calls.specs.declared.Done.{Done}
+use Rattle.run_calls.specs.declared.Done.the-variants.{Refused, Finished}
+use Rattle.run_calls.specs.View.{Told, told, finished, done}
+use Rattle.run_calls.proofs.Calls.{call-reads, both-right}
 
 -- its work is done
-pub works : {A : Type 0} (from to : Kernel → ℕ) (work : Kernel → List ℕ → A) (file first second : List ℕ) (K : Kernel) → read-file file ≡ ok K
-    → length first ≡ 4 * from K → length second ≡ 4 * to K → on-areas from to work file first second ≡ ok (work K (words first))
-works from to work file first second K e p q =
-    call-reads from to work file first second K e ∙ both-right from to work K first second (eq-eqb (length first) (4 * from K) p) (eq-eqb (length second) (4 * to K) q)
+pub works : {A : Type 0} (from to : Kernel → ℕ) (makes : Kernel → List ℕ → A) (file first second : List ℕ) (K : Kernel) → read-file file ≡ ok K
+    → length first ≡ 4 * from K → length second ≡ 4 * to K → on-areas from to makes file first second ≡ ok (makes K (words first))
+works from to makes file first second K e p q =
+    call-reads from to makes file first second K e ∙ both-right from to makes K first second (eq-eqb (length first) (4 * from K) p) (eq-eqb (length second) (4 * to K) q)
 
 -- what it tells of it
 abbrev pub tells : Memory.Ran → Told
@@ -40,6 +40,6 @@ move-finished a m h e = is-finished a (h ∙ ap finished e)
 
 -- and the written memory holds what was made
 pub area-left : {A : Type 0} {r : Result Fault A} {after : List ℕ} (memory : A → List ℕ) (before : List ℕ) (m : A)
-    → after ≡ left memory before r → r ≡ ok m → after ≡ bytes (memory m)
-unfolding left
-area-left memory before m h e = h ∙ ap (left memory before) e
+    → after ≡ afterwards memory before r → r ≡ ok m → after ≡ bytes (memory m)
+unfolding afterwards
+area-left memory before m h e = h ∙ ap (afterwards memory before) e

@@ -13,7 +13,7 @@ use Rattle.agreement.specs.Agreement.{Agree}
 use Rattle.agreement.proofs.Agreed.{agreement}
 use Rattle.agreement.proofs.Ended.{lengths-kept}
 use Rattle.demands.specs.Demands.{Job, Called, Sized, Agreed, Demand3, Demands}
-use Rattle.checking.proofs.One.{accepts}
+use Rattle.check_file.proofs.One.{accepts}
 use Rattle.demands.proofs.Wrapped.{words-below, laid-read, laid-length, put-back-read}
 use Rattle.demands.proofs.Answered.{works, tells, run-told, move-finished, area-left}
 use Rattle.demands.proofs.Kept.{demand-1}

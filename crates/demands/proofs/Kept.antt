@@ -10,72 +10,72 @@ use Rattle.numbers.specs.Words.{words}
 use Rattle.kernel.specs.File.{Kernel, input, output, length-of, count-of}
 use Rattle.kernel.specs.Reading.{Fault, fault, read-file}
 use Rattle.kernel.specs.Memory as Memory
-use Rattle.kernel.specs.Memory.{on-areas, left, total, laid-out, put-back, array-ran, stream-ran, array-run, stream-run, lay-out, putting-back}
-use Rattle.runs.specs.declared.Ran.{Ran}
-use Rattle.runs.specs.declared.Ran.the-variants as Ran
-use Rattle.runs.specs.declared.Done.{Done}
-use Rattle.runs.specs.declared.Done.the-variants as Done
-use Rattle.runs.specs.View.{told, answer, finished, done}
-use Rattle.runs.specs.Promises.{Runs, Moves}
-use Rattle.runs.proofs.One.{one-run, one-move}
+use Rattle.kernel.specs.Memory.{on-areas, afterwards, total, laid-out, put-back, array-ran, stream-ran, array-run, stream-run, lay-out, putting-back}
+use Rattle.run_calls.specs.declared.Ran.{Ran}
+use Rattle.run_calls.specs.declared.Ran.the-variants as Ran
+use Rattle.run_calls.specs.declared.Done.{Done}
+use Rattle.run_calls.specs.declared.Done.the-variants as Done
+use Rattle.run_calls.specs.View.{told, answer, finished, done}
+use Rattle.run_calls.specs.Promises.{Runs, Moves}
+use Rattle.run_calls.proofs.One.{one-run, one-move}
 use Rattle.demands.specs.Demands.{RunRefused, MoveRefused, Keeps, Demand1}
 
 -- a call looks at the written memory for its length alone
-same-call : {A : Type 0} (from to : Kernel → ℕ) (work : Kernel → List ℕ → A) (file given before other : List ℕ) → length before ≡ length other
-    → on-areas from to work file given before ≡ on-areas from to work file given other
+same-call : {A : Type 0} (from to : Kernel → ℕ) (makes : Kernel → List ℕ → A) (file given before other : List ℕ) → length before ≡ length other
+    → on-areas from to makes file given before ≡ on-areas from to makes file given other
 unfolding on-areas
-same-call from to work file given before other h = ap (λ n. read-file file >>= λ K. need (fault 21 0 0) (eqb (length given) (4 * from K) && eqb n (4 * to K)) >>= λ t. ok (work K (words given))) h
+same-call from to makes file given before other h = ap (λ n. read-file file >>= λ K. need (fault 21 0 0) (eqb (length given) (4 * from K) && eqb n (4 * to K)) >>= λ t. ok (makes K (words given))) h
 
 -- ---- runs
 
-run-stops : (r : Result Fault Memory.Ran) (f : Fault) (before : List ℕ) → told r ≡ stop f → left (λ m. m .memory) before r ≡ before
-unfolding told left
+run-stops : (r : Result Fault Memory.Ran) (f : Fault) (before : List ℕ) → told r ≡ stop f → afterwards (λ m. m .memory) before r ≡ before
+unfolding told afterwards
 run-stops (ok m) f before e = cc
 run-stops (stop g) f before e = refl
 
-run-goes : (r : Result Fault Memory.Ran) (a : Ran) (before other : List ℕ) → answer a ≡ told r → (RunRefused a → ⊥) → left (λ m. m .memory) before r ≡ left (λ m. m .memory) other r
-unfolding told left answer
+run-goes : (r : Result Fault Memory.Ran) (a : Ran) (before other : List ℕ) → answer a ≡ told r → (RunRefused a → ⊥) → afterwards (λ m. m .memory) before r ≡ afterwards (λ m. m .memory) other r
+unfolding told afterwards answer
 run-goes (ok m) a before other e n = refl
 run-goes (stop f) (Ran.Refused number section place) before other e n = absurd (n (number, section, place, refl))
 run-goes (stop f) (Ran.Ended read written) before other e n = cc
 run-goes (stop f) (Ran.Stuck reason at read written) before other e n = cc
 
-run-keeps : (from to : Kernel → ℕ) (work : Kernel → List ℕ → Memory.Ran) → Keeps (λ file given before a after. Runs (on-areas from to work file given before) before a after) RunRefused
+run-keeps : (from to : Kernel → ℕ) (makes : Kernel → List ℕ → Memory.Ran) → Keeps (λ file given before a after. Runs (on-areas from to makes file given before) before a after) RunRefused
 unfolding answer
-run-keeps from to work = record {
+run-keeps from to makes = record {
   writes-nothing = λ file given before a after p (number, section, place, e).
-      p .1 ∙ run-stops (on-areas from to work file given before) (fault number section place) before (sym (p .0) ∙ ap answer e);
+      p .1 ∙ run-stops (on-areas from to makes file given before) (fault number section place) before (sym (p .0) ∙ ap answer e);
   old-contents = λ file given before other a b x y h p q.
-      let s = same-call from to work file given before other h in
-      let q′ : Runs (on-areas from to work file given before) other b y = (q .0 ∙ ap told (sym s), q .1 ∙ ap (left (λ m. m .memory) other) (sym s)) in (
-        one-run (on-areas from to work file given before) other a b (left (λ m. m .memory) other (on-areas from to work file given before)) y (p .0, refl) q′ .0,
-        λ n. p .1 ∙ run-goes (on-areas from to work file given before) a before other (p .0) n ∙ sym (q′ .1),
+      let s = same-call from to makes file given before other h in
+      let q′ : Runs (on-areas from to makes file given before) other b y = (q .0 ∙ ap told (sym s), q .1 ∙ ap (afterwards (λ m. m .memory) other) (sym s)) in (
+        one-run (on-areas from to makes file given before) other a b (afterwards (λ m. m .memory) other (on-areas from to makes file given before)) y (p .0, refl) q′ .0,
+        λ n. p .1 ∙ run-goes (on-areas from to makes file given before) a before other (p .0) n ∙ sym (q′ .1),
       );
 }
 
 -- ---- laying out and putting back
 
-move-stops : (r : Result Fault (List ℕ)) (f : Fault) (before : List ℕ) → finished r ≡ stop f → left (λ m. m) before r ≡ before
-unfolding finished left
+move-stops : (r : Result Fault (List ℕ)) (f : Fault) (before : List ℕ) → finished r ≡ stop f → afterwards (λ m. m) before r ≡ before
+unfolding finished afterwards
 move-stops (ok m) f before e = cc
 move-stops (stop g) f before e = refl
 
-move-goes : (r : Result Fault (List ℕ)) (a : Done) (before other : List ℕ) → done a ≡ finished r → (MoveRefused a → ⊥) → left (λ m. m) before r ≡ left (λ m. m) other r
-unfolding finished left done
+move-goes : (r : Result Fault (List ℕ)) (a : Done) (before other : List ℕ) → done a ≡ finished r → (MoveRefused a → ⊥) → afterwards (λ m. m) before r ≡ afterwards (λ m. m) other r
+unfolding finished afterwards done
 move-goes (ok m) a before other e n = refl
 move-goes (stop f) (Done.Refused number section place) before other e n = absurd (n (number, section, place, refl))
 move-goes (stop f) Done.Finished before other e n = cc
 
-move-keeps : (from to : Kernel → ℕ) (work : Kernel → List ℕ → List ℕ) → Keeps (λ file given before a after. Moves (on-areas from to work file given before) before a after) MoveRefused
+move-keeps : (from to : Kernel → ℕ) (makes : Kernel → List ℕ → List ℕ) → Keeps (λ file given before a after. Moves (on-areas from to makes file given before) before a after) MoveRefused
 unfolding done
-move-keeps from to work = record {
+move-keeps from to makes = record {
   writes-nothing = λ file given before a after p (number, section, place, e).
-      p .1 ∙ move-stops (on-areas from to work file given before) (fault number section place) before (sym (p .0) ∙ ap done e);
+      p .1 ∙ move-stops (on-areas from to makes file given before) (fault number section place) before (sym (p .0) ∙ ap done e);
   old-contents = λ file given before other a b x y h p q.
-      let s = same-call from to work file given before other h in
-      let q′ : Moves (on-areas from to work file given before) other b y = (q .0 ∙ ap finished (sym s), q .1 ∙ ap (left (λ m. m) other) (sym s)) in (
-        one-move (on-areas from to work file given before) other a b (left (λ m. m) other (on-areas from to work file given before)) y (p .0, refl) q′ .0,
-        λ n. p .1 ∙ move-goes (on-areas from to work file given before) a before other (p .0) n ∙ sym (q′ .1),
+      let s = same-call from to makes file given before other h in
+      let q′ : Moves (on-areas from to makes file given before) other b y = (q .0 ∙ ap finished (sym s), q .1 ∙ ap (afterwards (λ m. m) other) (sym s)) in (
+        one-move (on-areas from to makes file given before) other a b (afterwards (λ m. m) other (on-areas from to makes file given before)) y (p .0, refl) q′ .0,
+        λ n. p .1 ∙ move-goes (on-areas from to makes file given before) a before other (p .0) n ∙ sym (q′ .1),
       );
 }
 

@@ -13,15 +13,17 @@ use Rattle.kernel.specs.Rules.{Derived}
 use Rattle.kernel.specs.Memory.{total, ended}
 use Rattle.agreement.specs.Agreement.{SticksAlike}
 use Rattle.agreement.specs.Exactness.{FirstBad}
-use Rattle.runs.specs.declared.Ran.{Ran}
-use Rattle.runs.specs.declared.Ran.the-variants as Ran
-use Rattle.runs.specs.declared.Done.{Done}
-use Rattle.runs.specs.declared.Done.the-variants as Done
-use Rattle.runs.specs.View.{Told, answer}
-use Rattle.runs.specs.Promises.{ArrayRun, StreamRun, LayOut, PutBack}
-use Rattle.checking.specs.declared.Checked.{Checked}
-use Rattle.checking.specs.declared.Checked.the-variants as Checked
-use Rattle.checking.specs.Promises.{Checks}
+use Rattle.run_calls.specs.declared.Ran.{Ran}
+use Rattle.run_calls.specs.declared.Ran.the-variants as Ran
+use Rattle.run_calls.specs.declared.Done.{Done}
+use Rattle.run_calls.specs.declared.Done.the-variants as Done
+use Rattle.run_calls.specs.View.{Told, answer}
+use Rattle.run_calls.specs.Promises.{ArrayRun, StreamRun, LayOut, PutBack}
+use Rattle.check_file.specs.declared.Refusal.{Refusal}
+use Rattle.check_file.specs.declared.Checked.{Checked}
+use Rattle.check_file.specs.View.{refusal}
+use Rattle.check_file.specs.declared.Checked.the-variants as Checked
+use Rattle.check_file.specs.Promises.{Checks}
 
 -- ---- demand 1: lent memory
 
@@ -52,7 +54,7 @@ pub record Judges (K : Kernel) (checked : Checked) : Type 0 where
   -- "accepts exactly the files whose derivation follows document 01's rules"
   pub exactly : checked ≡ Checked.Accepted ↔ Derived K
   -- "otherwise it names the first bad rule and that rule's lowest refusal"
-  pub first-bad : (number rule array stream : ℕ) → checked ≡ Checked.Refused number rule array stream → FirstBad K number rule array stream
+  pub first-bad : (r : Refusal) → checked ≡ Checked.Refused r → FirstBad K (refusal r)
 
 abbrev pub Demand2 : Type 0
 Demand2 = (file : List ℕ) (checked : Checked) → Checks file checked → (K : Kernel) → read-file file ≡ ok K → Judges K checked

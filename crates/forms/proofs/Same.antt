@@ -1,4 +1,4 @@
--- `same` says yes exactly to equal forms, so no counters tell two forms apart that it calls the same; `around` is `Around`.
+-- `same` says yes exactly to equal forms, and no counters tell equal forms apart; `around` is `Around`.
 use mathlib.Core.Path.{_≡_, sym, ap, subst, _∙_}
 use mathlib.Core.Bool.{true}
 use mathlib.Core.List.{List}
@@ -10,22 +10,29 @@ use lib.IntN.{ℤ, pos}
 use Rattle.numbers.specs.Words.{equal}
 use Rattle.numbers.specs.Lists.{alike}
 use Rattle.numbers.proofs.Tests.{and-left, and-right, and-true, equal-eq, equal-refl, eq-equal, alike-eq, eq-alike, every-at, at-every}
-use Rattle.forms.specs.Form.{Form, value, coefficient, Around, around, same}
+use Rattle.forms.specs.Form.{Form, value, coefficient, Around, around, Loop, same, Choice, Equal}
 
-pub same-eq : (f g : Form) → same f g ≡ true → f ≡ g
+pub same-eq : (around : List Loop) (f g : Form) → same around f g ≡ true → f ≡ g
 unfolding same
-same-eq f g h = λ i. record {
+same-eq around f g h = λ i. record {
   k = equal-eq (f .k) (g .k) (and-left (equal (f .k) (g .k)) (alike equal (f .x) (g .x)) h) i;
   x = alike-eq equal equal-eq (f .x) (g .x) (and-right (equal (f .k) (g .k)) (alike equal (f .x) (g .x)) h) i;
 }
 
-pub eq-same : {f g : Form} → f ≡ g → same f g ≡ true
+pub eq-same : (around : List Loop) {f g : Form} → f ≡ g → same around f g ≡ true
 unfolding same
-eq-same e = and-true (eq-equal (ap (λ f. f .k) e)) (eq-alike equal equal-refl (ap (λ f. f .x) e))
+eq-same around e = and-true (eq-equal (ap (λ f. f .k) e)) (eq-alike equal equal-refl (ap (λ f. f .x) e))
 
--- the law that callers use
-pub same-value : (f g : Form) → same f g ≡ true → (cs : List ℤ) → value f cs ≡ value g cs
-same-value f g h cs = ap (λ f. value f cs) (same-eq f g h)
+-- ---- equal forms, by these laws alone
+
+pub same-equal : (around : List Loop) (f g : Form) → same around f g ≡ true → Equal around f g
+same-equal around f g h = record { all-five = same-eq around f g h }
+
+pub equal-same : {around : List Loop} {f g : Form} → Equal around f g → same around f g ≡ true
+equal-same {around} e = eq-same around (e .all-five)
+
+pub equal-values : {around : List Loop} {f g : Form} → Equal around f g → (cs : List ℤ) → Choice around cs → value f cs ≡ value g cs
+equal-values e cs c = ap (λ f. value f cs) (e .all-five)
 
 -- ---- terms only for loops around
 

@@ -37,10 +37,6 @@ pub record Around (n : ℕ) (f : Form) : Type 0 where
 unfoldable pub around : ℕ → Form → Bool
 around n f = every (equal (pos 0)) (drop n (f .x))
 
--- "Two index forms are equal when all five numbers are equal"
-unfoldable pub same : Form → Form → Bool
-same f g = equal (f .k) (g .k) && alike equal (f .x) (g .x)
-
 -- ---- forms made from forms
 
 -- "position + 1"
@@ -82,6 +78,14 @@ last l = counter l (l .passes - 1)
 pub data Choice : List Loop → List ℤ → Type 0 where
   none : Choice [] []
   pass : {l : Loop} {ls : List Loop} {cs : List ℤ} (m : ℕ) → m < l .passes → Choice ls cs → Choice (l ∷ ls) (counter l m ∷ cs)
+
+-- "Two index forms are equal when all five numbers are equal", whatever loops are around
+pub record Equal (around : List Loop) (f g : Form) : Type 0 where
+  pub all-five : f ≡ g
+
+-- the same as a test
+unfoldable pub same : (around : List Loop) → Form → Form → Bool
+same around f g = equal (f .k) (g .k) && alike equal (f .x) (g .x)
 
 -- no choice of counter values brings the form to n or above
 pub record Below (ls : List Loop) (n : ℕ) (f : Form) : Type 0 where

@@ -8,8 +8,8 @@ use Rattle.numbers.specs.Result.{stop}
 use Rattle.numbers.specs.Words.{bytes}
 use Rattle.forms.specs.Form.{Loop}
 use Rattle.kernel.specs.Ledger.{Ledger}
-use Rattle.kernel.specs.Stand.{Opened, in-for, in-if, in-else, Stand}
-use Rattle.kernel.specs.Check.{at-else, at-end, break, finish}
+use Rattle.kernel.specs.Derivation.{Opened, in-for, in-if, in-else, Place}
+use Rattle.kernel.specs.Check.{at-else, at-end, finish}
 use Rattle.kernel.specs.Answers.{shown}
 use Rattle.kernel.specs.Measured.{Row, section, neg, counted, file, without, input-array, output-array, array-side, stream-side, ties, smoother, smooth, with-arrays, with-ties, dividing-by, reckoner, checking, printing, array-running, stream-running, laying-out, back-putting, lent, run-numbers, copy-numbers, answer, Table, Computes}
 use Rattle.kernel.proofs.Open.{kernel-open}
@@ -107,7 +107,7 @@ check-lines =
     ∷ (checking (programs ((8 ∷ 0 ∷ 2 ∷ 1 ∷ []) ∷ (11 ∷ []) ∷ []) ((8 ∷ 0 ∷ 2 ∷ 1 ∷ []) ∷ (11 ∷ []) ∷ []) ((7 ∷ []) ∷ (11 ∷ 0 ∷ 0 ∷ 0 ∷ 1 ∷ []) ∷ (11 ∷ 1 ∷ []) ∷ (12 ∷ 0 ∷ neg 1 ∷ []) ∷ (10 ∷ []) ∷ [])), 15 ∷ 4 ∷ 1 ∷ 1 ∷ [])
     -- 16: one branch reads and the other does not
     ∷ (checking (forked (4 ∷ 1 ∷ 0 ∷ []) (1 ∷ 1 ∷ []) (6 ∷ 1 ∷ 0 ∷ []) (1 ∷ 1 ∷ []) ((2 ∷ []) ∷ (9 ∷ []) ∷ (1 ∷ []) ∷ (10 ∷ []) ∷ [])), 16 ∷ 5 ∷ 5 ∷ 5 ∷ [])
-    -- 13: a buffer that one branch filled is not kept behind the if
+    -- 13: a buffer that one branch filled is not kept after the if
     ∷ (checking (programs ((1 ∷ 0 ∷ []) ∷ (9 ∷ 0 ∷ []) ∷ (4 ∷ 1 ∷ 0 ∷ []) ∷ (10 ∷ []) ∷ (11 ∷ []) ∷ (4 ∷ 1 ∷ 0 ∷ []) ∷ []) ((1 ∷ 0 ∷ []) ∷ (9 ∷ 0 ∷ []) ∷ (6 ∷ 1 ∷ 0 ∷ []) ∷ (10 ∷ []) ∷ (6 ∷ 2 ∷ 0 ∷ []) ∷ (11 ∷ []) ∷ (2 ∷ 1 ∷ 2 ∷ []) ∷ []) ((1 ∷ []) ∷ (8 ∷ []) ∷ (2 ∷ []) ∷ (9 ∷ []) ∷ (3 ∷ []) ∷ (10 ∷ []) ∷ (4 ∷ []) ∷ [])), 13 ∷ 6 ∷ 5 ∷ 6 ∷ [])
     -- 13: a move of a buffer that holds nothing
     ∷ (checking (programs [] ((2 ∷ 2 ∷ 2 ∷ []) ∷ []) ((5 ∷ []) ∷ [])), 13 ∷ 0 ∷ 0 ∷ 0 ∷ [])
@@ -152,12 +152,12 @@ unfolding kernel-open section neg counted file without input-array output-array 
 further = refl
 
 -- 18 comes from no file: it is what the end of a derivation gives with no statement left and a block open
-eighteen : (L : Ledger) → finish (record { registers = 1; buffers = 0; arrays = []; array-program = []; stream-program = []; derivation = [] }) (record { rule = 3; array = 1; stream = 2; opened = in-if L ∷ []; ledger = L }) ≡ stop (break 18 3 1 2)
+eighteen : (L : Ledger) → finish (record { registers = 1; buffers = 0; arrays = []; array-program = []; stream-program = []; derivation = [] }) (record { rule = 3; array = 1; stream = 2; opened = in-if L ∷ []; ledger = L }) ≡ stop (record { number = 18; rule = 3; array = 1; stream = 2 })
 unfolding kernel-open
 eighteen L = refl
 
 -- an else and an end that the innermost block does not ask for: no file gets there either
-no-such-block : (l : Loop) (L : Ledger) (os : List Opened) (c : Stand) → (at-else [] c ≡ stop 10) × (at-else (in-for l L ∷ os) c ≡ stop 10) × (at-else (in-else L ∷ os) c ≡ stop 10) × (at-end [] c ≡ stop 10) × (at-end (in-if L ∷ os) c ≡ stop 10)
+no-such-block : (l : Loop) (L : Ledger) (os : List Opened) (c : Place) → (at-else [] c ≡ stop 10) × (at-else (in-for l L ∷ os) c ≡ stop 10) × (at-else (in-else L ∷ os) c ≡ stop 10) × (at-end [] c ≡ stop 10) × (at-end (in-if L ∷ os) c ≡ stop 10)
 unfolding kernel-open
 no-such-block l L os c = (refl, refl, refl, refl, refl)
 

@@ -1,11 +1,11 @@
 pub mod Open
 pub mod Measured
 pub mod Further
-pub mod Guarantees
+pub mod Sides
 pub mod Readable
 pub mod Lengths
 pub mod Sayings
 pub mod Orders
-pub mod Trees
 pub mod Fronts
+pub mod Trees
 pub mod Walking

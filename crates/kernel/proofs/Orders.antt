@@ -17,13 +17,7 @@ use Rattle.numbers.proofs.Order.{abs-mul}
 use Rattle.numbers.proofs.Tests.{inside-index}
 use Rattle.kernel.specs.File.{Rec, only, length-of, first-of, count-of, step-of, index}
 use Rattle.kernel.specs.Memory.{listed, cells}
-use Rattle.kernel.proofs.Guarantees.{ArrayFits}
-
--- z is an index of n cells
-pub record Inside (n : ℕ) (z : ℤ) : Type 0 where
-  pub at : ℕ
-  pub is : z ≡ pos at
-  pub below : at < n
+use Rattle.kernel.specs.Guarantees.{ArrayFits, Inside}
 
 inside-at : (n : ℕ) (z : ℤ) → inside n z ≡ true → Inside n z
 inside-at n z h = let (i, e, l) = inside-index n z h in record { at = i; is = e; below = l }

@@ -18,9 +18,10 @@ use Rattle.numbers.proofs.Results.{On, on-ok, on-stop, on-need, on-then, on-map
 use Rattle.numbers.proofs.Tests.{and-left, and-right, and-true, or-cases, each-of, between-range, within-abs, inside-index, equal-eq, eq-equal, every-at}
 use Rattle.numbers.proofs.Order.{abs-mul, abs-sub}
 use Rattle.forms.specs.Form.{coefficient, counter, limit}
-use Rattle.kernel.specs.File.{Rec, numbers, form, nothing, Kernel, input, output, on, only, length-of, first-of, count-of, step-of, index, none, whole, loop-of, sayings, statement}
+use Rattle.kernel.specs.File.{Rec, numbers, form, nothing, Kernel, input, output, side-of, on, only, length-of, first-of, count-of, step-of, index, none, whole-steps, loop-of, sayings, statement}
 use Rattle.kernel.specs.Reading.{count, records, section, sections, zeros, array-fits, arrays-fit, Kind, array-only, stream-only, register, an-input, an-output, term, bound, table, Scope, array-scope, stream-scope, holds, has-pass, statement-fits, Open, after, closed, statements-fit, minus-one, form-fits, rule-fits, rules-fit, read-file}
-use Rattle.kernel.proofs.Guarantees.{ArrayFits, FormSmall, OnSide, LoopFits, Fits, Nested, over, then, RuleFits, All, Reads}
+use Rattle.kernel.proofs.Sides.{side-nothing}
+use Rattle.kernel.specs.Guarantees.{ArrayFits, FormSmall, OnSide, LoopFits, StatementFits, Nested, over, then, RuleFits, All, Reads}
 
 -- ---- counts
 
@@ -66,12 +67,12 @@ sections-counted ws =
 array-says : (a : Rec) → array-fits a ≡ true → ArrayFits a
 unfolding array-fits on
 array-says a h =
-    let t = each-of (eqb (a .code) input || eqb (a .code) output) (between 1 4096 (length-of a) ∷ between 1 (length-of a) (count-of a) ∷ not (equal (step-of a) (pos 0)) ∷ within 4096 (step-of a) ∷ zeros (drop 1 (a .x)) ∷ inside (length-of a) (first-of a) ∷ inside (length-of a) (index a (count-of a - 1)) ∷ []) h in
+    let t = each-of (eqb (side-of a) input || eqb (side-of a) output) (between 1 4096 (length-of a) ∷ between 1 (length-of a) (count-of a) ∷ not (equal (step-of a) (pos 0)) ∷ within 4096 (step-of a) ∷ zeros (drop 1 (a .x)) ∷ inside (length-of a) (first-of a) ∷ inside (length-of a) (index a (count-of a - 1)) ∷ []) h in
     let lengths = between-range 1 4096 (length-of a) (t 1) in
     let counts = between-range 1 (length-of a) (count-of a) (t 2) in
     let (i, e, l) = inside-index (length-of a) (first-of a) (t 6) in
     record {
-      side = code (or-cases (eqb (a .code) input) (eqb (a .code) output) (t 0));
+      side = code (or-cases (eqb (side-of a) input) (eqb (side-of a) output) (t 0));
       short = lengths .1;
       some = counts .0;
       counted = counts .1;
@@ -81,9 +82,9 @@ array-says a h =
       last-inside = t 7;
     }
   where
-    code : (eqb (a .code) input ≡ true) ⊎ (eqb (a .code) output ≡ true) → (a .code ≡ input) ⊎ (a .code ≡ output)
-    code (inl e) = inl (eqb-true (a .code) input e)
-    code (inr e) = inr (eqb-true (a .code) output e)
+    code : (eqb (side-of a) input ≡ true) ⊎ (eqb (side-of a) output ≡ true) → (side-of a ≡ input) ⊎ (side-of a ≡ output)
+    code (inl e) = inl (eqb-true (side-of a) input e)
+    code (inr e) = inr (eqb-true (side-of a) output e)
 
 pub record ArraysFit (i o : ℕ) (arrays : List Rec) : Type 0 where
   pub each-one : All ArrayFits arrays
@@ -124,14 +125,14 @@ is-register : (c : Scope) (w : ℕ) → holds c register w ≡ true → w < c .r
 unfolding holds
 is-register c w h = ltb-true w (c .registers) h
 
--- the arrays end, and what stands behind them is on no side
-there-on : (side : ℕ) (arrays : List Rec) (q : ℕ) → 1 ≤ side → on side (getD arrays q nothing) ≡ true → (q < length arrays) × (getD arrays q nothing .code ≡ side)
+-- the arrays end, and what stands after them is on no side
+there-on : (side : ℕ) (arrays : List Rec) (q : ℕ) → 1 ≤ side → on side (getD arrays q nothing) ≡ true → (q < length arrays) × (side-of (getD arrays q nothing) ≡ side)
 unfolding on
-there-on side [] q s h = absurd (no-side s (eqb-true 0 side h))
+there-on side [] q s h = absurd (no-side s (sym side-nothing ∙ eqb-true (side-of nothing) side h))
   where
     no-side : 1 ≤ side → 0 ≡ side → ⊥
     no-side s e = omega arith
-there-on side (a ∷ arrays) zero s h = (omega arith, eqb-true (a .code) side h)
+there-on side (a ∷ arrays) zero s h = (omega arith, eqb-true (side-of a) side h)
 there-on side (a ∷ arrays) (suc q) s h = let (l, e) = there-on side arrays q s h in (omega arith, e)
 
 is-input : (c : Scope) (q : ℕ) → holds c an-input q ≡ true → OnSide input c q
@@ -168,8 +169,8 @@ in-stream-program c w h = h
 -- ---- loops
 
 -- where there is a pass, the passes times the step are the way from first to limit
-whole-meets : (d s : ℤ) → 1 ≤ whole d s → pos (whole d s) *ℤ s ≡ d
-unfolding whole
+whole-meets : (d s : ℤ) → 1 ≤ whole-steps d s → pos (whole-steps d s) *ℤ s ≡ d
+unfolding whole-steps
 whole-meets d s h = by (quotZ d s) h
   where
     quotient : ℤ → ℕ
@@ -189,8 +190,8 @@ whole-meets d s h = by (quotZ d s) h
         none-left : 1 ≤ 0 → ⊥
         none-left h = omega arith
 
-whole-zero : whole (pos 0) (pos 0) ≡ 0
-unfolding whole equal
+whole-zero : whole-steps (pos 0) (pos 0) ≡ 0
+unfolding whole-steps equal
 whole-zero = refl
 
 -- limit is the file's q
@@ -217,7 +218,7 @@ loop-says r p q k h = record {
     s = signed (r .k)
 
     n : ℕ
-    n = whole (signed (r .q) -ℤ signed (r .p)) s
+    n = whole-steps (signed (r .q) -ℤ signed (r .p)) s
 
     way : pos n *ℤ s ≡ signed (r .q) -ℤ signed (r .p)
     way = whole-meets (signed (r .q) -ℤ signed (r .p)) s h
@@ -225,7 +226,7 @@ loop-says r p q k h = record {
     moves : s ≡ pos 0 → ⊥
     moves e =
         let none : pos 0 ≡ signed (r .q) -ℤ signed (r .p) = sym (*ℤ-zero (pos n)) ∙ ap (λ z. pos n *ℤ z) (sym e) ∙ way in
-        let zero-passes : n ≡ 0 = (λ i. whole (sym none i) (e i)) ∙ whole-zero in
+        let zero-passes : n ≡ 0 = (λ i. whole-steps (sym none i) (e i)) ∙ whole-zero in
         omega (arith, zero-passes, h)
 
     some-step : (z : ℤ) → (z ≡ pos 0 → ⊥) → 1 ≤ natAbs z
@@ -236,7 +237,7 @@ loop-says r p q k h = record {
 -- ---- a statement that fits, by its code
 
 code-says : (c : Scope) (n p q k : ℕ) (x : List ℕ) → 1 ≤ n → n ≤ 11 → alike (holds c) (getD table (n - 1) []) (n ∷ p ∷ q ∷ k ∷ x) ≡ true
-    → has-pass (statement (record { code = n; p = p; q = q; k = k; x = x })) ≡ true → Fits c (statement (record { code = n; p = p; q = q; k = k; x = x }))
+    → has-pass (statement (record { code = n; p = p; q = q; k = k; x = x })) ≡ true → StatementFits c (statement (record { code = n; p = p; q = q; k = k; x = x }))
 unfolding table statement sayings has-pass
 code-says c zero p q k x low high h l = absurd (nothing-there low)
   where
@@ -276,7 +277,7 @@ code-says c (suc (suc (suc (suc (suc (suc (suc (suc (suc (suc (suc (suc n)))))))
     too-high : suc (suc (suc (suc (suc (suc (suc (suc (suc (suc (suc (suc n))))))))))) ≤ 11 → ⊥
     too-high h = omega arith
 
-pub statement-says : (c : Scope) (r : Rec) → statement-fits c r ≡ true → Fits c (statement r)
+pub statement-says : (c : Scope) (r : Rec) → statement-fits c r ≡ true → StatementFits c (statement r)
 unfolding statement-fits numbers
 statement-says c r h =
     let t = each-of (between 1 11 (r .code)) (alike (holds c) (getD table (r .code - 1) []) (r .code ∷ r .p ∷ r .q ∷ r .k ∷ r .x) ∷ has-pass (statement r) ∷ []) h in
@@ -417,3 +418,13 @@ file-reads bytes =
       few-rules = counts .derivation .1;
       derivation = rules;
     })
+
+-- ---- an element of a row
+
+pub all-at : {A : Type 0} (P : A → Type 0) (xs : List A) (d : A) → All P xs → (i : ℕ) → i < length xs → P (getD xs i d)
+all-at P [] d a i h = absurd (none-below h)
+  where
+    none-below : i < 0 → ⊥
+    none-below h = omega arith
+all-at P (x ∷ xs) d a zero h = a .0
+all-at P (x ∷ xs) d a (suc i) h = all-at P xs d (a .1) i (omega arith)

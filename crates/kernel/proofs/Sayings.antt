@@ -1,5 +1,5 @@
 -- What a record says, from its code; and what reading guarantees of the statement at a place.
-use mathlib.Core.Path.{_≡_, refl, ap, subst}
+use mathlib.Core.Path.{_≡_, refl, sym, ap, subst, _∙_}
 use mathlib.Core.List.{List}
 use Prim.Native.Nat.{ℕ, zero, suc, _<_, _≤_}
 use native.Mathlib.Omega.{arith}
@@ -7,7 +7,8 @@ use native.Mathlib.Decide.{decLt}
 use lib.ListN.{length, getD, List·getD-eq-default}
 use Rattle.kernel.specs.File.{Rec, form, nothing, sets, copies, works, loads, stores, reads, writes, fors, ifs, elses, ends, operator, set, copy, work, load, store, read, write, Statement, does, for, if, else, end, none, loop-of, sayings, statement}
 use Rattle.kernel.specs.Reading.{Scope, Open}
-use Rattle.kernel.proofs.Guarantees.{Fits, Nested, over, then}
+use Rattle.kernel.specs.Guarantees.{StatementFits, Nested, over, then}
+use Rattle.kernel.specs.Blocks.{said}
 
 said-by : (r : Rec) (n : ℕ) → r .code ≡ n → statement r ≡ getD {A = Rec → Statement} sayings n (λ r. none) r
 unfolding statement
@@ -88,7 +89,7 @@ unfolding statement
 code-agrees r s e = subst (Agrees (r .code)) e (row-agrees r (r .code))
 
 -- the statement at a place of a program that reads
-pub fits-at : {c : Scope} {os : List Open} {rs : List Rec} → Nested c os rs → (i : ℕ) → i < length rs → Fits c (statement (getD rs i nothing))
+pub fits-at : {c : Scope} {os : List Open} {rs : List Rec} → Nested c os rs → (i : ℕ) → i < length rs → StatementFits c (statement (getD rs i nothing))
 fits-at over i h = absurd (no-more h)
   where
     no-more : i < 0 → ⊥
@@ -106,3 +107,28 @@ there-at rs i h = by (decLt i (length rs))
     by : Dec (i < length rs) → i < length rs
     by (yes l) = l
     by (no n) = absurd (none-there (getD rs i nothing .code) h (ap (λ r. r .code) (List·getD-eq-default rs nothing {n = i} (omega arith))))
+
+-- kinds of statements, to tell them apart
+unfoldable pub kind : Statement → ℕ
+kind (does o) = 0
+kind (for l) = 1
+kind (if p) = 2
+kind else = 3
+kind end = 4
+kind none = 5
+
+pub unlike : {s t : Statement} → s ≡ t → (kind s ≡ kind t → ⊥) → ⊥
+unlike e f = f (ap kind e)
+
+pub said-past : (rs : List Rec) (i : ℕ) → length rs ≤ i → said rs i ≡ none
+unfolding statement sayings
+said-past rs i h = ap statement (List·getD-eq-default rs nothing {n = i} h)
+
+-- where something is said there is a record
+pub said-there : (rs : List Rec) (i : ℕ) {s : Statement} → said rs i ≡ s → kind s < 5 → i < length rs
+unfolding kind
+said-there rs i e k = by (decLt i (length rs))
+  where
+    by : Dec (i < length rs) → i < length rs
+    by (yes h) = h
+    by (no n) = absurd (omega (arith, ap kind (sym e ∙ said-past rs i (omega arith))))

@@ -1,307 +1,203 @@
--- A program that reads has exactly one tree: `tree` is a block of the program's records, and any block that begins where it begins
--- is that one.
+-- A program that reads is one block, its tree, and so from each record on: two blocks that begin at one record are the same, by recursion on the block, and the
+-- trees computed from a record on are blocks, one inside the other, by recursion on the records left.
 use mathlib.Core.Path.{_≡_, refl, sym, ap, subst, _∙_}
 use mathlib.Core.List.{List, [], _∷_}
-use Prim.Native.Nat.{ℕ, suc, _+_, _<_, _≤_}
+use Prim.Native.Nat.{ℕ, suc, _<_, _≤_}
 use native.Mathlib.Omega.{arith}
-use lib.Dec.{leb}
-use lib.ListN.{length, getD}
-use borrow.Author.Tests.{leb-true}
-use Rattle.numbers.specs.Result.{ok, stop, _>>=_}
-use Rattle.numbers.proofs.Results.{On, on-ok, on-stop, on-need, on-then, on-at}
-use Rattle.numbers.proofs.Tests.{each-of}
-use Rattle.forms.specs.Form.{Form, Around, Loop}
-use Rattle.forms.proofs.Same.{around-says}
-use Rattle.kernel.specs.File.{Rec, nothing, Op, set, copy, work, load, store, read, write, Statement, does, for, if, else, end, none, sayings, statement}
-use Rattle.kernel.specs.Reading.{Scope, Open, in-for, in-if, in-else, open-loops, all-passes, opened, after-else, after-end, names, after-op, after}
-use Rattle.kernel.specs.Blocks.{Block, stops, plain, loop, branch, in-front, blocks, tree}
-use Rattle.kernel.proofs.Guarantees.{OpFits, LoopFits, Fits, Nested, over, then}
+use lib.ListN.{length, getD, drop, drop-of-length-le, length-drop}
+use lib.Seq.{drop-cons}
+use Rattle.numbers.specs.Result.{ok}
+use Rattle.numbers.proofs.Results.{On, on-ok, on-stop, on-at}
+use Rattle.forms.specs.Form.{Loop}
+use Rattle.kernel.specs.File.{Rec, nothing, Op, Statement, does, for, if, else, end, none, statement}
+use Rattle.kernel.specs.Reading.{Scope, Open, open-for, open-if, open-else, after-else, after-end, after}
+use Rattle.kernel.specs.Guarantees.{StatementFits, Nested, over, then, Begins}
+use Rattle.kernel.specs.Blocks.{Block, stops, plain, loop, branch, said, at-an-else, at-an-end, past-the-last, IsBlock, row-over, row-plain, row-for, row-if, OneBlock}
+use Rattle.kernel.specs.Trees.{in-front, blocks, tree-at, tree, stop-of, OneTree}
+use Rattle.kernel.proofs.Readable.{file-reads}
+use Rattle.kernel.proofs.Sayings.{kind, said-there}
+use Rattle.kernel.proofs.Fronts.{op-says, opened-says, block-low, ReadBlock, PlainFront, LoopFront, BranchFront, front-plain, front-loop, front-branch, front-stop}
 
--- ---- records i up to j are a block
+-- ---- no other block begins there
 
--- what record i says
-abbrev pub said : List Rec → ℕ → Statement
-said rs i = statement (getD rs i nothing)
-
--- a block stops at an else, at an end, or past the last record
-abbrev pub Stop : Statement → Type 0
-Stop (does o) = ⊥
-Stop (for l) = ⊥
-Stop (if p) = ⊥
-Stop else = Unit
-Stop end = Unit
-Stop none = Unit
-
--- the counters that a statement names are around it
-abbrev pub Names : ℕ → Op → Type 0
-Names n (set p f) = Around n f
-Names n (copy p q) = Unit
-Names n (work o p q k) = Unit
-Names n (load p q f) = Around n f
-Names n (store p q f) = Around n f
-Names n (read p q) = Unit
-Names n (write p q) = Unit
-
-pub record StopsAt (rs : List Rec) (n i j : ℕ) : Type 0 where
-  pub number : n ≡ j
-  pub here : i ≡ j
-  pub stop : Stop (said rs j)
-
-pub record PlainAt (c : Scope) (rs : List Rec) (os : List Open) (n : ℕ) (o : Op) (i : ℕ) (Rest : ℕ → Type 0) : Type 0 where
-  pub number : n ≡ i
-  pub there : i < length rs
-  pub says : said rs i ≡ does o
-  pub fits : OpFits c o
-  pub names : Names (open-loops os) o
-  pub rest : Rest (suc i)
-
--- a block may be opened: at most 8 are open then, 4 of them loops, and all their passes are few
-pub record Room (os : List Open) : Type 0 where
-  pub depth : length os ≤ 8
-  pub loops : open-loops os ≤ 4
-  pub passes : all-passes os ≤ 65536
-
-pub record LoopAt (rs : List Rec) (os : List Open) (n : ℕ) (l : Loop) (i : ℕ) (Body : ℕ → ℕ → Type 0) (Rest : ℕ → Type 0) : Type 0 where
-  pub number : n ≡ i
-  pub there : i < length rs
-  pub says : said rs i ≡ for l
-  pub fits : LoopFits l
-  pub room : Room (in-for (l .passes) ∷ os)
-  pub end-at : ℕ
-  pub body : Body (suc i) end-at
-  pub ends : said rs end-at ≡ end
-  pub rest : Rest (suc end-at)
-
-pub record BranchAt (c : Scope) (rs : List Rec) (os : List Open) (n p i : ℕ) (Then Other : ℕ → ℕ → Type 0) (Rest : ℕ → Type 0) : Type 0 where
-  pub number : n ≡ i
-  pub there : i < length rs
-  pub says : said rs i ≡ if p
-  pub fits : p < c .registers
-  pub room : Room (in-if ∷ os)
-  pub else-at : ℕ
-  pub first : Then (suc i) else-at
-  pub elses : said rs else-at ≡ else
-  pub end-at : ℕ
-  pub second : Other (suc else-at) end-at
-  pub ends : said rs end-at ≡ end
-  pub rest : Rest (suc end-at)
-
--- with these blocks open around, records i up to j are the block, which stops at j
-unfoldable pub IsBlock : Scope → List Rec → Block → List Open → ℕ → ℕ → Type 0
-IsBlock c rs (stops n) os i j = StopsAt rs n i j
-IsBlock c rs (plain n o t) os i j = PlainAt c rs os n o i (λ m. IsBlock c rs t os m j)
-IsBlock c rs (loop n l b t) os i j = LoopAt rs os n l i (λ m e. IsBlock c rs b (in-for (l .passes) ∷ os) m e) (λ m. IsBlock c rs t os m j)
-IsBlock c rs (branch n p a b t) os i j =
-    BranchAt c rs os n p i (λ m e. IsBlock c rs a (in-if ∷ os) m e) (λ m e. IsBlock c rs b (in-else ∷ os) m e) (λ m. IsBlock c rs t os m j)
-
--- ---- what a step of the reading says
-
-pub opened-says : (os : List Open) → On (λ os′. (os′ ≡ os) × Room os) (opened os)
-unfolding opened
-opened-says os =
-    on-then _ (on-need _ _) λ t h.
-    let u = each-of (leb (length os) 8) (leb (open-loops os) 4 ∷ leb (all-passes os) 65536 ∷ []) h in
-    on-ok (refl, record { depth = leb-true (length os) 8 (u 0); loops = leb-true (open-loops os) 4 (u 1); passes = leb-true (all-passes os) 65536 (u 2) })
-
-names-says : (f : Form) (os : List Open) → On (λ os′. (os′ ≡ os) × Around (open-loops os) f) (names f os)
-unfolding names
-names-says f os = on-then _ (on-need _ _) λ t h. on-ok (refl, around-says (open-loops os) f h)
-
-pub op-says : (o : Op) (os : List Open) → On (λ os′. (os′ ≡ os) × Names (open-loops os) o) (after-op o os)
-unfolding after-op
-op-says (set p f) os = names-says f os
-op-says (copy p q) os = on-ok (refl, tt)
-op-says (work o p q k) os = on-ok (refl, tt)
-op-says (load p q f) os = names-says f os
-op-says (store p q f) os = names-says f os
-op-says (read p q) os = on-ok (refl, tt)
-op-says (write p q) os = on-ok (refl, tt)
+same-block : {c : Scope} {rs : List Rec} {t u : Block} {os : List Open} {i j k : ℕ} → IsBlock rs t i j → ReadBlock c rs u os i k → (t ≡ u) × (j ≡ k)
+same-block (row-over s) g = let (e, at) = front-stop g s in (sym e, at)
+same-block (row-plain {i} {o} x r) g =
+    let f = front-plain g x in
+    let (e, at) = same-block r (f .more) in
+    (ap (plain i o) e ∙ sym (f .is), at)
+same-block {c} {rs} {os} {k} (row-for {i} {l} x b y r) g =
+    let f = front-loop g x in
+    let (e, m) = same-block b (f .inner) in
+    let (e₂, at) = same-block r (subst (λ m. ReadBlock c rs (f .rest) os (suc m) k) (sym m) (f .more)) in
+    ((λ z. loop i l (e z) (e₂ z)) ∙ sym (f .is), at)
+same-block {c} {rs} {os} {k} (row-if {i} {p} x a y b z r) g =
+    let f = front-branch g x in
+    let (e, m) = same-block a (f .inner) in
+    let (e₁, m₁) = same-block b (subst (λ m. ReadBlock c rs (f .second) (open-else ∷ os) (suc m) (f .end-at)) (sym m) (f .other)) in
+    let (e₂, at) = same-block r (subst (λ m. ReadBlock c rs (f .rest) os (suc m) k) (sym m₁) (f .more)) in
+    ((λ z. branch i p (e z) (e₁ z) (e₂ z)) ∙ sym (f .is), at)
 
 -- ---- the trees of what follows are blocks, one inside the other
 
-module _ (c : Scope) (rs : List Rec) where
-  -- the block that record i stands in, then what comes behind its else or end, and so on outward
+module _ (rs : List Rec) where
+  -- the block that record i stands in, then what comes after its else or end, and so on outward
   Chain : List Block → List Open → ℕ → Type 0
   Chain [] os i = ⊥
-  Chain (t ∷ ts) [] i = IsBlock c rs t [] i (length rs)
-  Chain (t ∷ ts) (in-for p ∷ os) i = (j : ℕ) × IsBlock c rs t (in-for p ∷ os) i j × (said rs j ≡ end) × Chain ts os (suc j)
-  Chain (t ∷ ts) (in-if ∷ os) i = (j : ℕ) × IsBlock c rs t (in-if ∷ os) i j × (said rs j ≡ else) × Chain ts (in-else ∷ os) (suc j)
-  Chain (t ∷ ts) (in-else ∷ os) i = (j : ℕ) × IsBlock c rs t (in-else ∷ os) i j × (said rs j ≡ end) × Chain ts os (suc j)
+  Chain (t ∷ ts) [] i = IsBlock rs t i (length rs)
+  Chain (t ∷ ts) (open-for p ∷ os) i = (j : ℕ) × IsBlock rs t i j × (said rs j ≡ end) × Chain ts os (suc j)
+  Chain (t ∷ ts) (open-if ∷ os) i = (j : ℕ) × IsBlock rs t i j × (said rs j ≡ else) × Chain ts (open-else ∷ os) (suc j)
+  Chain (t ∷ ts) (open-else ∷ os) i = (j : ℕ) × IsBlock rs t i j × (said rs j ≡ end) × Chain ts os (suc j)
 
   -- the first block made longer at its front
-  longer : (t t′ : Block) (ts : List Block) (os : List Open) (i k : ℕ) → ((j : ℕ) → IsBlock c rs t os k j → IsBlock c rs t′ os i j) → Chain (t ∷ ts) os k → Chain (t′ ∷ ts) os i
+  longer : {t u : Block} (ts : List Block) (os : List Open) {i k : ℕ} → ((j : ℕ) → IsBlock rs t k j → IsBlock rs u i j) → Chain (t ∷ ts) os k → Chain (u ∷ ts) os i
   unfolding Chain
-  longer t t′ ts [] i k f h = f (length rs) h
-  longer t t′ ts (in-for p ∷ os) i k f h = (h .0, f (h .0) (h .1), h .2, h .3)
-  longer t t′ ts (in-if ∷ os) i k f h = (h .0, f (h .0) (h .1), h .2, h .3)
-  longer t t′ ts (in-else ∷ os) i k f h = (h .0, f (h .0) (h .1), h .2, h .3)
+  longer ts [] f h = f (length rs) h
+  longer ts (open-for p ∷ os) f h = (h .0, f (h .0) (h .1), h .2, h .3)
+  longer ts (open-if ∷ os) f h = (h .0, f (h .0) (h .1), h .2, h .3)
+  longer ts (open-else ∷ os) f h = (h .0, f (h .0) (h .1), h .2, h .3)
 
   -- a statement in front keeps the chain
   Keeps : ℕ → Statement → List Open → List Open → Type 0
   Keeps i s os os′ = (ts : List Block) → Chain ts os′ (suc i) → Chain (in-front i s ts) os i
 
-  module _ (i : ℕ) (there : i < length rs) where
-    keeps-plain : (o : Op) (os os′ : List Open) → said rs i ≡ does o → OpFits c o → (os′ ≡ os) × Names (open-loops os) o → Keeps i (does o) os os′
-    unfolding Keeps Chain in-front IsBlock
-    keeps-plain o os os′ e f (same, n) ts h = go ts (subst (λ x. Chain ts x (suc i)) same h)
-      where
-        go : (ts : List Block) → Chain ts os (suc i) → Chain (in-front i (does o) ts) os i
-        go [] h = absurd h
-        go (t ∷ ts) h = longer t (plain i o t) ts os i (suc i) (λ j b. record { number = refl; there = there; says = e; fits = f; names = n; rest = b }) h
+  module _ (i : ℕ) (os : List Open) where
+    keeps-plain : (o : Op) → said rs i ≡ does o → Keeps i (does o) os os
+    unfolding Keeps Chain in-front
+    keeps-plain o e [] h = absurd h
+    keeps-plain o e (t ∷ ts) h = longer ts os (λ j. row-plain e) h
 
-    keeps-loop : (l : Loop) (os os′ : List Open) → said rs i ≡ for l → LoopFits l → (os′ ≡ in-for (l .passes) ∷ os) × Room (in-for (l .passes) ∷ os) → Keeps i (for l) os os′
-    unfolding Keeps Chain in-front IsBlock
-    keeps-loop l os os′ e f (same, room) ts h = go ts (subst (λ x. Chain ts x (suc i)) same h)
-      where
-        go : (ts : List Block) → Chain ts (in-for (l .passes) ∷ os) (suc i) → Chain (in-front i (for l) ts) os i
-        go [] h = absurd h
-        go (b ∷ []) h = absurd (h .3)
-        go (b ∷ t ∷ ts) (m, body, ends, h) = longer t (loop i l b t) ts os i (suc m)
-            (λ j rest. record { number = refl; there = there; says = e; fits = f; room = room; end-at = m; body = body; ends = ends; rest = rest }) h
+    keeps-loop : (l : Loop) → said rs i ≡ for l → Keeps i (for l) os (open-for (l .passes) ∷ os)
+    unfolding Keeps Chain in-front
+    keeps-loop l e [] h = absurd h
+    keeps-loop l e (b ∷ []) h = absurd (h .3)
+    keeps-loop l e (b ∷ t ∷ ts) (m, body, ends, h) = longer ts os (λ j. row-for e body ends) h
 
-    keeps-branch : (p : ℕ) (os os′ : List Open) → said rs i ≡ if p → p < c .registers → (os′ ≡ in-if ∷ os) × Room (in-if ∷ os) → Keeps i (if p) os os′
-    unfolding Keeps Chain in-front IsBlock
-    keeps-branch p os os′ e f (same, room) ts h = go ts (subst (λ x. Chain ts x (suc i)) same h)
-      where
-        go : (ts : List Block) → Chain ts (in-if ∷ os) (suc i) → Chain (in-front i (if p) ts) os i
-        go [] h = absurd h
-        go (a ∷ []) h = absurd (h .3)
-        go (a ∷ b ∷ []) h = absurd (h .3 .3)
-        go (a ∷ b ∷ t ∷ ts) (x, first, elses, (m, second, ends, h)) = longer t (branch i p a b t) ts os i (suc m)
-            (λ j rest. record { number = refl; there = there; says = e; fits = f; room = room; else-at = x; first = first; elses = elses; end-at = m; second = second; ends = ends; rest = rest }) h
+    keeps-branch : (p : ℕ) → said rs i ≡ if p → Keeps i (if p) os (open-if ∷ os)
+    unfolding Keeps Chain in-front
+    keeps-branch p e [] h = absurd h
+    keeps-branch p e (a ∷ []) h = absurd (h .3)
+    keeps-branch p e (a ∷ b ∷ []) h = absurd (h .3 .3)
+    keeps-branch p e (a ∷ b ∷ t ∷ ts) (x, first, elses, (m, second, ends, h)) = longer ts os (λ j. row-if e first elses second ends) h
 
-    keeps-else : (os : List Open) → said rs i ≡ else → On (λ os′. Keeps i else os os′) (after-else os)
-    unfolding after-else Keeps Chain in-front IsBlock
-    keeps-else [] e = on-stop
-    keeps-else (in-for p ∷ os) e = on-stop
-    keeps-else (in-if ∷ os) e = on-ok (λ ts h. (i, record { number = refl; here = refl; stop = subst Stop (sym e) tt }, e, h))
-    keeps-else (in-else ∷ os) e = on-stop
+  keeps-else : (i : ℕ) (os : List Open) → said rs i ≡ else → On (Keeps i else os) (after-else os)
+  unfolding after-else Keeps Chain in-front
+  keeps-else i [] e = on-stop
+  keeps-else i (open-for p ∷ os) e = on-stop
+  keeps-else i (open-if ∷ os) e = on-ok (λ ts h. (i, row-over (at-an-else e), e, h))
+  keeps-else i (open-else ∷ os) e = on-stop
 
-    keeps-end : (os : List Open) → said rs i ≡ end → On (λ os′. Keeps i end os os′) (after-end os)
-    unfolding after-end Keeps Chain in-front IsBlock
-    keeps-end [] e = on-stop
-    keeps-end (in-for p ∷ os) e = on-ok (λ ts h. (i, record { number = refl; here = refl; stop = subst Stop (sym e) tt }, e, h))
-    keeps-end (in-if ∷ os) e = on-stop
-    keeps-end (in-else ∷ os) e = on-ok (λ ts h. (i, record { number = refl; here = refl; stop = subst Stop (sym e) tt }, e, h))
+  keeps-end : (i : ℕ) (os : List Open) → said rs i ≡ end → On (Keeps i end os) (after-end os)
+  unfolding after-end Keeps Chain in-front
+  keeps-end i [] e = on-stop
+  keeps-end i (open-for p ∷ os) e = on-ok (λ ts h. (i, row-over (at-an-end e), e, h))
+  keeps-end i (open-if ∷ os) e = on-stop
+  keeps-end i (open-else ∷ os) e = on-ok (λ ts h. (i, row-over (at-an-end e), e, h))
 
-    keeps : (s : Statement) (os os′ : List Open) → said rs i ≡ s → Fits c s → after s os ≡ ok os′ → Keeps i s os os′
-    unfolding after
-    keeps (does o) os os′ e f a = keeps-plain o os os′ e f (on-at (op-says o os) a)
-    keeps (for l) os os′ e f a = keeps-loop l os os′ e f (on-at (opened-says (in-for (l .passes) ∷ os)) a)
-    keeps (if p) os os′ e f a = keeps-branch p os os′ e f (on-at (opened-says (in-if ∷ os)) a)
-    keeps else os os′ e f a = on-at (keeps-else os e) a
-    keeps end os os′ e f a = on-at (keeps-end os e) a
-    keeps none os os′ e f a = absurd f
+  keeps : (c : Scope) (i : ℕ) (s : Statement) (os os′ : List Open) → said rs i ≡ s → StatementFits c s → after s os ≡ ok os′ → Keeps i s os os′
+  unfolding after
+  keeps c i (does o) os os′ e f a = subst (Keeps i (does o) os) (sym (on-at (op-says o os) a .0)) (keeps-plain i os o e)
+  keeps c i (for l) os os′ e f a = subst (Keeps i (for l) os) (sym (on-at (opened-says (open-for (l .passes) ∷ os)) a .0)) (keeps-loop i os l e)
+  keeps c i (if p) os os′ e f a = subst (Keeps i (if p) os) (sym (on-at (opened-says (open-if ∷ os)) a .0)) (keeps-branch i os p e)
+  keeps c i else os os′ e f a = on-at (keeps-else i os e) a
+  keeps c i end os os′ e f a = on-at (keeps-end i os e) a
+  keeps c i none os os′ e f a = absurd f
 
-  -- the records from i on are the rest
-  record From (i : ℕ) (rest : List Rec) : Type 0 where
-    at : (k : ℕ) → getD rs (i + k) nothing ≡ getD rest k nothing
-    size : i + length rest ≡ length rs
+  chain : (c : Scope) (i : ℕ) {os : List Open} {rest : List Rec} → Nested c os rest → drop i rs ≡ rest → i ≤ length rs → Chain (blocks i rest) os i
+  unfolding blocks Chain Keeps
+  chain c i over e h =
+      let past : i ≡ length rs = omega (arith, length-drop i rs, ap length e) in
+      subst (λ n. IsBlock rs (stops i) i n) past (row-over (past-the-last (omega arith)))
+  chain c i (then {os} {os′} {r} {rs = rest} fits a more) e h =
+      let there : i < length rs = omega (arith, length-drop i rs, ap length e) in
+      let both : getD rs i nothing ∷ drop (suc i) rs ≡ r ∷ rest = sym (drop-cons rs i nothing there) ∙ e in
+      let here : getD rs i nothing ≡ r = cc in
+      let further : drop (suc i) rs ≡ rest = cc in
+      keeps c i (statement r) os os′ (ap statement here) fits a (blocks (suc i) rest) (chain c (suc i) more further (omega arith))
 
-  next-from : (i : ℕ) (r : Rec) (rest : List Rec) → From i (r ∷ rest) → From (suc i) rest
-  next-from i r rest f = record {
-    at = λ k. ap (λ n. getD rs n nothing) (move i k) ∙ f .at (suc k);
-    size = omega (arith, f .size);
-  }
-    where
-      move : (i k : ℕ) → suc i + k ≡ i + suc k
-      move i k = omega arith
-
-  chain : (i : ℕ) {os : List Open} {rest : List Rec} → Nested c os rest → From i rest → Chain (blocks i rest) os i
-  unfolding blocks Chain Keeps IsBlock statement sayings
-  chain i over f =
-      let past : i ≡ length rs = omega (arith, f .size) in
-      record { number = past; here = past; stop = subst Stop (sym (ap statement (ap (λ n. getD rs n nothing) (sym past ∙ zero-more i) ∙ f .at 0))) tt }
-    where
-      zero-more : (i : ℕ) → i ≡ i + 0
-      zero-more i = omega arith
-  chain i (then {os} {os′} {r} {rs = rest} fits e more) f =
-      keeps i (omega (arith, f .size)) (statement r) os os′ (ap statement (ap (λ n. getD rs n nothing) (zero-more i) ∙ f .at 0)) fits e
-      (blocks (suc i) rest) (chain (suc i) more (next-from i r rest f))
-    where
-      zero-more : (i : ℕ) → i ≡ i + 0
-      zero-more i = omega arith
-
-  first-block : (ts : List Block) → Chain ts [] 0 → IsBlock c rs (getD ts 0 (stops 0)) [] 0 (length rs)
+  first-block : {i : ℕ} (ts : List Block) (os : List Open) → Chain ts os i → (j : ℕ) × IsBlock rs (getD ts 0 (stops i)) i j
   unfolding Chain
-  first-block [] h = absurd h
-  first-block (t ∷ ts) h = h
+  first-block [] os h = absurd h
+  first-block (t ∷ ts) [] h = (length rs, h)
+  first-block (t ∷ ts) (open-for p ∷ os) h = (h .0, h .1)
+  first-block (t ∷ ts) (open-if ∷ os) h = (h .0, h .1)
+  first-block (t ∷ ts) (open-else ∷ os) h = (h .0, h .1)
 
-  pub tree-block : Nested c [] rs → IsBlock c rs (tree rs) [] 0 (length rs)
-  unfolding tree
-  tree-block n = first-block (blocks 0 rs) (chain 0 n (record { at = λ k. ap (λ m. getD rs m nothing) (no-more k); size = omega arith }))
-    where
-      no-more : (k : ℕ) → 0 + k ≡ k
-      no-more k = omega arith
+  whole-block : (ts : List Block) → Chain ts [] 0 → IsBlock rs (getD ts 0 (stops 0)) 0 (length rs)
+  unfolding Chain
+  whole-block [] h = absurd h
+  whole-block (t ∷ ts) h = h
 
--- ---- no other block begins there
+-- ---- the whole program
 
--- kinds of statements, to tell them apart
-unfoldable pub kind : Statement → ℕ
-kind (does o) = 0
-kind (for l) = 1
-kind (if p) = 2
-kind else = 3
-kind end = 4
-kind none = 5
+pub tree-block : (c : Scope) (rs : List Rec) → Nested c [] rs → ReadBlock c rs (tree rs) [] 0 (length rs)
+unfolding tree tree-at
+tree-block c rs n = record { is = whole-block rs (blocks 0 rs) (chain rs c 0 n refl (omega arith)); reads = n }
 
-pub unlike : {s t : Statement} → s ≡ t → (kind s ≡ kind t → ⊥) → ⊥
-unlike e f = f (ap kind e)
+one-block : (c : Scope) (rs : List Rec) → Nested c [] rs → OneBlock rs (tree rs)
+one-block c rs n = record { is = tree-block c rs n .is; only = λ u j h. same-block h (tree-block c rs n) }
 
-module _ (c : Scope) (rs : List Rec) where
-  -- a block that stops where a statement opens or does something
-  no-stop : {n i j : ℕ} (s : Statement) → StopsAt rs n i j → said rs i ≡ s → (Stop s → ⊥) → ⊥
-  no-stop s h e f = f (subst Stop e (subst (λ m. Stop (said rs m)) (sym (h .here)) (h .stop)))
+pub one-tree : OneTree
+one-tree file K e =
+    let r = on-at (file-reads file) e in
+    record { array-program = one-block _ _ (r .array-program); stream-program = one-block _ _ (r .stream-program) }
 
-  abbrev Same : Block → Block → ℕ → ℕ → Type 0
-  Same t u j k = (t ≡ u) × (j ≡ k)
+-- ---- from a record on
 
-  one-block : (t u : Block) (os os′ : List Open) (i j k : ℕ) → IsBlock c rs t os i j → IsBlock c rs u os′ i k → Same t u j k
-  unfolding IsBlock kind
-  one-block (stops n) (stops m) os os′ i j k h g =
-      let e : j ≡ k = sym (h .here) ∙ g .here in
-      (ap stops (h .number ∙ e ∙ sym (g .number)), e)
-  one-block (stops n) (plain m o t) os os′ i j k h g = absurd (no-stop (does o) h (g .says) (λ x. x))
-  one-block (stops n) (loop m l b t) os os′ i j k h g = absurd (no-stop (for l) h (g .says) (λ x. x))
-  one-block (stops n) (branch m p a b t) os os′ i j k h g = absurd (no-stop (if p) h (g .says) (λ x. x))
-  one-block (plain n o t) (stops m) os os′ i j k h g = absurd (no-stop (does o) g (h .says) (λ x. x))
-  one-block (plain n o t) (plain m o′ u) os os′ i j k h g =
-      let (e, d) = one-block t u os os′ (suc i) j k (h .rest) (g .rest) in
-      let same-op : does o ≡ does o′ = sym (h .says) ∙ g .says in
-      let same : o ≡ o′ = cc in
-      let at : n ≡ m = h .number ∙ sym (g .number) in
-      ((λ x. plain (at x) (same x) (e x)), d)
-  one-block (plain n o t) (loop m l b u) os os′ i j k h g = absurd (unlike (sym (h .says) ∙ g .says) (λ e. omega arith))
-  one-block (plain n o t) (branch m p a b u) os os′ i j k h g = absurd (unlike (sym (h .says) ∙ g .says) (λ e. omega arith))
-  one-block (loop n l b t) (stops m) os os′ i j k h g = absurd (no-stop (for l) g (h .says) (λ x. x))
-  one-block (loop n l b t) (plain m o u) os os′ i j k h g = absurd (unlike (sym (h .says) ∙ g .says) (λ e. omega arith))
-  one-block (loop n l b t) (loop m l′ b′ u) os os′ i j k h g =
-      let (e, d) = one-block b b′ (in-for (l .passes) ∷ os) (in-for (l′ .passes) ∷ os′) (suc i) (h .end-at) (g .end-at) (h .body) (g .body) in
-      let (e₂, d₂) = one-block t u os os′ (suc (h .end-at)) j k (h .rest) (subst (λ x. IsBlock c rs u os′ (suc x) k) (sym d) (g .rest)) in
-      let same-for : for l ≡ for l′ = sym (h .says) ∙ g .says in
-      let same : l ≡ l′ = cc in
-      let at : n ≡ m = h .number ∙ sym (g .number) in
-      ((λ x. loop (at x) (same x) (e x) (e₂ x)), d₂)
-  one-block (loop n l b t) (branch m p a b′ u) os os′ i j k h g = absurd (unlike (sym (h .says) ∙ g .says) (λ e. omega arith))
-  one-block (branch n p a b t) (stops m) os os′ i j k h g = absurd (no-stop (if p) g (h .says) (λ x. x))
-  one-block (branch n p a b t) (plain m o u) os os′ i j k h g = absurd (unlike (sym (h .says) ∙ g .says) (λ e. omega arith))
-  one-block (branch n p a b t) (loop m l b′ u) os os′ i j k h g = absurd (unlike (sym (h .says) ∙ g .says) (λ e. omega arith))
-  one-block (branch n p a b t) (branch m p′ a′ b′ u) os os′ i j k h g =
-      let (e, d) = one-block a a′ (in-if ∷ os) (in-if ∷ os′) (suc i) (h .else-at) (g .else-at) (h .first) (g .first) in
-      let (e₁, d₁) = one-block b b′ (in-else ∷ os) (in-else ∷ os′) (suc (h .else-at)) (h .end-at) (g .end-at) (h .second) (subst (λ x. IsBlock c rs b′ (in-else ∷ os′) (suc x) (g .end-at)) (sym d) (g .second)) in
-      let (e₂, d₂) = one-block t u os os′ (suc (h .end-at)) j k (h .rest) (subst (λ x. IsBlock c rs u os′ (suc x) k) (sym d₁) (g .rest)) in
-      let same-if : if p ≡ if p′ = sym (h .says) ∙ g .says in
-      let same : p ≡ p′ = cc in
-      let at : n ≡ m = h .number ∙ sym (g .number) in
-      ((λ x. branch (at x) (same x) (e x) (e₁ x) (e₂ x)), d₂)
+stop-is : {rs : List Rec} {t : Block} {i j : ℕ} → IsBlock rs t i j → stop-of t ≡ j
+unfolding stop-of
+stop-is (row-over s) = refl
+stop-is (row-plain x r) = stop-is r
+stop-is (row-for x b y r) = stop-is r
+stop-is (row-if x a y b z r) = stop-is r
 
--- a program that reads has exactly one tree
-pub record OneTree (c : Scope) (rs : List Rec) : Type 0 where
-  pub is-one : IsBlock c rs (tree rs) [] 0 (length rs)
-  pub no-other : (t : Block) (j : ℕ) → IsBlock c rs t [] 0 j → (t ≡ tree rs) × (j ≡ length rs)
+pub past : (rs : List Rec) (i : ℕ) → length rs ≤ i → tree-at rs i ≡ stops i
+unfolding tree-at blocks
+past rs i h = ap (λ rest. getD (blocks i rest) 0 (stops i)) (drop-of-length-le rs h)
 
-pub one-tree : (c : Scope) (rs : List Rec) → Nested c [] rs → OneTree c rs
-one-tree c rs n = record {
-  is-one = tree-block c rs n;
-  no-other = λ t j h. one-block c rs t (tree rs) [] [] 0 j (length rs) h (tree-block c rs n);
-}
+-- the tree there is the block there
+pub block-at : (rs : List Rec) (i : ℕ) (b : Begins rs i) → i ≤ length rs → ReadBlock (b .scope) rs (tree-at rs i) (b .opens) i (stop-of (tree-at rs i))
+unfolding tree-at
+block-at rs i b h =
+    let (j, is) = first-block rs (blocks i (drop i rs)) (b .opens) (chain rs (b .scope) i (b .reads) refl h) in
+    record { is = subst (λ j. IsBlock rs (tree-at rs i) i j) (sym (stop-is is)) is; reads = b .reads }
+
+pub is-tree : {c : Scope} {rs : List Rec} {t : Block} {os : List Open} {i j : ℕ} → i ≤ length rs → ReadBlock c rs t os i j → (t ≡ tree-at rs i) × (j ≡ stop-of (tree-at rs i))
+is-tree {c} {rs} {os} {i} h b = same-block (b .is) (block-at rs i (record { scope = c; opens = os; reads = b .reads }) h)
+
+-- ---- what the tree at a record begins with: the trees at the records after it
+
+module _ {c : Scope} {rs : List Rec} {os : List Open} {i j : ℕ} {o : Op} {t : Block} (f : PlainFront c rs os i j o t) (h : i < length rs) where
+  pub plain-tree : t ≡ plain i o (tree-at rs (suc i))
+  plain-tree = f .is ∙ ap (plain i o) (is-tree h (f .more) .0)
+
+module _ {c : Scope} {rs : List Rec} {os : List Open} {i j : ℕ} {l : Loop} {t : Block} (f : LoopFront c rs os i j l t) where
+  -- the body stops inside the program
+  pub loop-inside : (i < f .end-at) × (f .end-at < length rs)
+  unfolding kind
+  loop-inside = (block-low (f .inner .is), said-there rs (f .end-at) (f .ends) (omega arith))
+
+  pub body-stops : f .end-at ≡ stop-of (tree-at rs (suc i))
+  body-stops = is-tree (omega (arith, loop-inside .0, loop-inside .1)) (f .inner) .1
+
+  pub loop-tree : t ≡ loop i l (tree-at rs (suc i)) (tree-at rs (suc (f .end-at)))
+  loop-tree =
+      let (e, at) = is-tree (omega (arith, loop-inside .0, loop-inside .1)) (f .inner) in
+      f .is ∙ (λ x. loop i l (e x) (is-tree (loop-inside .1) (f .more) .0 x))
+
+module _ {c : Scope} {rs : List Rec} {os : List Open} {i j p : ℕ} {t : Block} (f : BranchFront c rs os i j p t) where
+  pub branch-inside : (i < f .else-at) × (f .else-at < f .end-at) × (f .end-at < length rs)
+  unfolding kind
+  branch-inside = (block-low (f .inner .is), block-low (f .other .is), said-there rs (f .end-at) (f .ends) (omega arith))
+
+  pub first-stops : f .else-at ≡ stop-of (tree-at rs (suc i))
+  first-stops = is-tree (omega (arith, branch-inside .0, branch-inside .1, branch-inside .2)) (f .inner) .1
+
+  pub second-stops : f .end-at ≡ stop-of (tree-at rs (suc (f .else-at)))
+  second-stops = is-tree (omega (arith, branch-inside .1, branch-inside .2)) (f .other) .1
+
+  pub branch-tree : t ≡ branch i p (tree-at rs (suc i)) (tree-at rs (suc (f .else-at))) (tree-at rs (suc (f .end-at)))
+  branch-tree =
+      let (e, at) = is-tree (omega (arith, branch-inside .0, branch-inside .1, branch-inside .2)) (f .inner) in
+      let (e₁, at₁) = is-tree (omega (arith, branch-inside .1, branch-inside .2)) (f .other) in
+      f .is ∙ (λ x. branch i p (e x) (e₁ x) (is-tree (branch-inside .2) (f .more) .0 x))

@@ -8,18 +8,18 @@ use Rattle.numbers.specs.Result.{Result, ok, stop}
 use Rattle.kernel.specs.File.{Kernel}
 use Rattle.kernel.specs.Reading.{Fault, fault, read-file}
 use Rattle.kernel.specs.Memory.{Ending, ended, sticks}
-use Rattle.kernel.specs.Check.{Break, break, check-kernel}
+use Rattle.kernel.specs.Check.{Refusal, check-kernel}
 
 -- ---- the check of a file
 
 pub data Checked : Type 0 where
   accepted : Checked
   unread : Fault → Checked
-  refused : Break → Checked
+  refused : Refusal → Checked
 
-unfoldable pub checked : Result Break (Unit {0}) → Checked
+unfoldable pub checked : Result Refusal (Unit {0}) → Checked
 checked (ok t) = accepted
-checked (stop b) = refused b
+checked (stop r) = refused r
 
 unfoldable pub checked-file : Result Fault Kernel → Checked
 checked-file (ok K) = checked (check-kernel K)
@@ -33,13 +33,13 @@ check file = checked-file (read-file file)
 unfoldable pub fault-numbers : Fault → List ℕ
 fault-numbers (fault number section place) = number ∷ section ∷ place ∷ []
 
-unfoldable pub break-numbers : Break → List ℕ
-break-numbers (break number rule array stream) = number ∷ rule ∷ array ∷ stream ∷ []
+unfoldable pub refusal-numbers : Refusal → List ℕ
+refusal-numbers r = r .number ∷ r .rule ∷ r .array ∷ r .stream ∷ []
 
 unfoldable pub check-numbers : Checked → List ℕ
 check-numbers accepted = 0 ∷ []
 check-numbers (unread f) = fault-numbers f
-check-numbers (refused b) = break-numbers b
+check-numbers (refused r) = refusal-numbers r
 
 unfoldable pub ending-numbers : Ending → List ℕ
 ending-numbers ended = 0 ∷ 0 ∷ []
@@ -52,7 +52,7 @@ unfoldable pub decimal : (f n : ℕ) → (after : List ℕ) → List ℕ
 decimal zero n after = after
 decimal (suc f) n after = elim (ltb n 10) [ true ↦ (48 + n) ∷ after | false ↦ decimal f (n / 10) ((48 + n % 10) ∷ after) ]
 
--- each number behind a space, then the line's end
+-- each number after a space, then the line's end
 unfoldable pub spaced : List ℕ → List ℕ
 spaced [] = 10 ∷ []
 spaced (n ∷ ns) = 32 ∷ decimal (suc n) n (spaced ns)
@@ -61,7 +61,7 @@ spaced (n ∷ ns) = 32 ∷ decimal (suc n) n (spaced ns)
 unfoldable pub line : Checked → List ℕ
 line accepted = 97 ∷ 99 ∷ 99 ∷ 101 ∷ 112 ∷ 116 ∷ 101 ∷ 100 ∷ 10 ∷ []
 line (unread f) = 114 ∷ 101 ∷ 97 ∷ 100 ∷ spaced (fault-numbers f)
-line (refused b) = 99 ∷ 104 ∷ 101 ∷ 99 ∷ 107 ∷ spaced (break-numbers b)
+line (refused r) = 99 ∷ 104 ∷ 101 ∷ 99 ∷ 107 ∷ spaced (refusal-numbers r)
 
 -- "of which it takes at most the first 49,436 bytes"
 unfoldable pub printed : (standard-input : List ℕ) → List ℕ

@@ -9,6 +9,9 @@ use lib.Signed.{quotZ}
 use Rattle.numbers.specs.Words.{signed, equal}
 use Rattle.forms.specs.Form.{Form, Loop}
 
+-- "A row of signed 32-bit numbers": here a number is its word, 0 to 2³² − 1, and `signed` gives its sign where that counts. A negative number is a
+-- word of 2³¹ or more, outside every range that begins at 0 or 1.
+
 -- "A record is 8 numbers: code, p, q, k, x0, x1, x2, x3"
 pub record Rec : Type 0 where
   pub code : ℕ
@@ -49,8 +52,11 @@ input = 1
 abbrev pub output : ℕ
 output = 2
 
+unfoldable pub side-of : Rec → ℕ
+side-of a = a .code
+
 unfoldable pub on : ℕ → Rec → Bool
-on side a = eqb (a .code) side
+on side a = eqb (side-of a) side
 
 -- a number of an array on that side, 0 for one of the other
 unfoldable pub only : ℕ → (Rec → ℕ) → Rec → ℕ
@@ -136,15 +142,15 @@ pub data Statement : Type 0 where
   else end none : Statement
 
 -- "(q − p) / k a whole number": that number, or 0
-unfoldable pub whole : ℤ → ℤ → ℕ
-whole d s = elim (quotZ d s) [ pos n ↦ cond (equal (pos n *ℤ s) d) n 0 | negsuc n ↦ 0 ]
+unfoldable pub whole-steps : ℤ → ℤ → ℕ
+whole-steps d s = elim (quotZ d s) [ pos n ↦ cond (equal (pos n *ℤ s) d) n 0 | negsuc n ↦ 0 ]
 
 -- "for: first p, limit q, step k"
 unfoldable pub loop-of : Rec → Loop
 loop-of r = record {
   first = signed (r .p);
   step = signed (r .k);
-  passes = whole (signed (r .q) -ℤ signed (r .p)) (signed (r .k));
+  passes = whole-steps (signed (r .q) -ℤ signed (r .p)) (signed (r .k));
 }
 
 -- the table of statements, by code from 0
@@ -167,3 +173,18 @@ sayings =
 -- what a record says; one with a code out of range says nothing
 unfoldable pub statement : Rec → Statement
 statement r = getD {A = Rec → Statement} sayings (r .code) (λ r. none) r
+
+-- ---- the derivation
+
+-- codes of its records: rules from the first to the last, and the two kinds of hold rows
+abbrev pub first-rule : ℕ
+first-rule = 1
+
+abbrev pub last-rule : ℕ
+last-rule = 10
+
+abbrev pub position-row : ℕ
+position-row = 11
+
+abbrev pub buffer-row : ℕ
+buffer-row = 12

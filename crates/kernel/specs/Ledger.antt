@@ -7,7 +7,7 @@ use lib.ListN.{getD, set, replicate}
 use lib.Dec.{eqb}
 use lib.IntN.{pos}
 use Rattle.numbers.specs.Lists.{alike}
-use Rattle.forms.specs.Form.{Form, constant, plus-one, along, same}
+use Rattle.forms.specs.Form.{Form, constant, plus-one, along, Loop, same}
 use Rattle.kernel.specs.File.{Kernel, first-of, step-of, array}
 
 -- an input array and an index form
@@ -65,31 +65,33 @@ each-held g (some (held q f)) = some (held q (g f))
 unfoldable pub each : (Form → Form) → Ledger → Ledger
 each g L = record { positions = map g (L .positions); buffers = map (each-held g) (L .buffers) }
 
--- a buffer holds just that
-unfoldable pub holds-just : Held → Option Held → Bool
-holds-just (held q f) none = false
-holds-just (held q f) (some (held q′ f′)) = eqb q q′ && same f f′
+-- ---- ledgers compared, with these loops around
 
-unfoldable pub same-positions : Ledger → Ledger → Bool
-same-positions L M = alike same (L .positions) (M .positions)
+-- a buffer holds just that
+unfoldable pub holds-just : (around : List Loop) → Held → Option Held → Bool
+holds-just around (held q f) none = false
+holds-just around (held q f) (some (held q′ f′)) = eqb q q′ && same around f f′
+
+unfoldable pub same-positions : (around : List Loop) → Ledger → Ledger → Bool
+same-positions around L M = alike (same around) (L .positions) (M .positions)
 
 -- "each position row equals the ledger and each buffer row is nothing or equals it"
-unfoldable pub row-true : Option Held → Option Held → Bool
-row-true none h = true
-row-true (some r) h = holds-just r h
+unfoldable pub row-true : (around : List Loop) → Option Held → Option Held → Bool
+row-true around none h = true
+row-true around (some r) h = holds-just around r h
 
-unfoldable pub rows-true : (rows : Ledger) → Ledger → Bool
-rows-true rows L = same-positions rows L && alike row-true (rows .buffers) (L .buffers)
+unfoldable pub rows-true : (around : List Loop) → (rows : Ledger) → Ledger → Bool
+rows-true around rows L = same-positions around rows L && alike (row-true around) (rows .buffers) (L .buffers)
 
 -- "After an if, a buffer keeps what both branches have equal, else nothing"
-unfoldable pub kept : Option Held → Option Held → Option Held
-kept none h = none
-kept (some r) h = cond (holds-just r h) (some r) none
+unfoldable pub kept : (around : List Loop) → Option Held → Option Held → Option Held
+kept around none h = none
+kept around (some r) h = cond (holds-just around r h) (some r) none
 
-unfoldable pub kept-all : List (Option Held) → List (Option Held) → List (Option Held)
-kept-all [] gs = []
-kept-all (h ∷ hs) [] = []
-kept-all (h ∷ hs) (g ∷ gs) = kept h g ∷ kept-all hs gs
+unfoldable pub kept-all : (around : List Loop) → List (Option Held) → List (Option Held) → List (Option Held)
+kept-all around [] gs = []
+kept-all around (h ∷ hs) [] = []
+kept-all around (h ∷ hs) (g ∷ gs) = kept around h g ∷ kept-all around hs gs
 
-unfoldable pub merged : Ledger → Ledger → Ledger
-merged L M = record { positions = L .positions; buffers = kept-all (L .buffers) (M .buffers) }
+unfoldable pub merged : (around : List Loop) → Ledger → Ledger → Ledger
+merged around L M = record { positions = L .positions; buffers = kept-all around (L .buffers) (M .buffers) }

@@ -1,10 +1,13 @@
+pub mod Numbers
 pub mod File
 pub mod Reading
+pub mod Guarantees
 pub mod Blocks
+pub mod Trees
 pub mod Machine
 pub mod Memory
 pub mod Ledger
-pub mod Stand
+pub mod Derivation
 pub mod Rules
 pub mod Check
 pub mod Answers

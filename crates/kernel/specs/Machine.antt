@@ -10,11 +10,12 @@ use lib.IntN.{ℤ, pos, natAbs}
 use Rattle.numbers.specs.Result.{Result, ok, stop, _>>=_, need, because}
 use Rattle.numbers.specs.Words.{low32, plus, minus, times, over, inside}
 use Rattle.forms.specs.Form.{value, Loop, counter}
+use Rattle.kernel.specs.Numbers.{unset, zero-divisor, index-outside, stream-empty, stream-full}
 use Rattle.kernel.specs.File.{Operator, add, subtract, multiply, divide, Op, set, copy, work, load, store, read, write}
 use Rattle.kernel.specs.Blocks.{Block, stops, plain, loop, branch}
 
 -- of each array: how many cells (array run) or items (stream run) it has, and where they begin in its side's memory; the input memory
-pub record World : Type 0 where
+pub record Layout : Type 0 where
   pub size : ℕ → ℕ
   pub base : ℕ → ℕ
   pub input : List ℕ
@@ -26,15 +27,15 @@ pub record State : Type 0 where
   pub output : List ℕ
 
 -- the loops around: how many, and the counters of the four levels, 0 where no loop runs
-pub record Around : Type 0 where
+pub record Counters : Type 0 where
   pub level : ℕ
-  pub counters : List ℤ
+  pub values : List ℤ
 
 -- ---- registers, places and cells
 
 -- "Using an unset register sticks (31)"
 unfoldable pub word : Option ℕ → Result ℕ ℕ
-word none = stop 31
+word none = stop unset
 word (some w) = ok w
 
 -- (a register past the last, which no file that reads names, counts as 0)
@@ -51,10 +52,10 @@ unfoldable pub advance : ℕ → State → State
 advance q s = record { registers = s .registers; places = ListN.set (s .places) q (place q s + 1); output = s .output }
 
 -- what stands in cell i of input q, and cell i of output q changed to w
-unfoldable pub cell : World → (q i : ℕ) → ℕ
+unfoldable pub cell : Layout → (q i : ℕ) → ℕ
 cell e q i = getD (e .input) (e .base q + i) 0
 
-unfoldable pub keep : World → (q i w : ℕ) → State → State
+unfoldable pub keep : Layout → (q i w : ℕ) → State → State
 keep e q i w s = record { registers = s .registers; places = s .places; output = ListN.set (s .output) (e .base q + i) w }
 
 -- ---- statements that hold no block
@@ -65,7 +66,7 @@ result add a b = ok (plus a b)
 result subtract a b = ok (minus a b)
 result multiply a b = ok (times a b)
 result divide a b = do
-  _ ← need 32 (not (eqb b 0))
+  _ ← need zero-divisor (not (eqb b 0))
   ok (over a b)
 
 -- the number of a cell that the array has, or the reason to stick
@@ -76,7 +77,7 @@ cell-number reason n z = do
 
 -- "an index outside the array (33), an empty stream (34), a stream that has its full count (35)"
 -- a read is a load, and a write a store, at the stream's own place
-unfoldable pub perform : World → List ℤ → Op → State → Result ℕ State
+unfoldable pub perform : Layout → List ℤ → Op → State → Result ℕ State
 perform e cs (set p f) s = ok (put p (low32 (value f cs)) s)
 perform e cs (copy p q) s = do
   w ← get q s
@@ -87,18 +88,18 @@ perform e cs (work o p q k) s = do
   w ← result o a b
   ok (put p w s)
 perform e cs (load p q f) s = do
-  i ← cell-number 33 (e .size q) (value f cs)
+  i ← cell-number index-outside (e .size q) (value f cs)
   ok (put p (cell e q i) s)
 perform e cs (store p q f) s = do
   w ← get p s
-  i ← cell-number 33 (e .size q) (value f cs)
+  i ← cell-number index-outside (e .size q) (value f cs)
   ok (keep e q i w s)
 perform e cs (read p q) s = do
-  i ← cell-number 34 (e .size q) (pos (place q s))
+  i ← cell-number stream-empty (e .size q) (pos (place q s))
   ok (advance q (put p (cell e q i) s))
 perform e cs (write p q) s = do
   w ← get p s
-  i ← cell-number 35 (e .size q) (pos (place q s))
+  i ← cell-number stream-full (e .size q) (pos (place q s))
   ok (advance q (keep e q i w s))
 
 -- ---- blocks
@@ -108,8 +109,8 @@ pub data Stuck : Type 0 where
   stuck : (reason n : ℕ) → State → Stuck
 
 -- statement n
-unfoldable pub step : World → (n : ℕ) → Op → Around → State → Result Stuck State
-step e n o c s = because (λ reason. stuck reason n s) (perform e (c .counters) o s)
+unfoldable pub step : Layout → (n : ℕ) → Op → Counters → State → Result Stuck State
+step e n o c s = because (λ reason. stuck reason n s) (perform e (c .values) o s)
 
 -- one block or the other, by register p: statement n
 unfoldable pub choose : (n p : ℕ) → (State → Result Stuck State) → (State → Result Stuck State) → State → Result Stuck State
@@ -118,15 +119,15 @@ choose n p then other s = do
   cond (eqb w 0) other then s
 
 -- around the body of loop l in pass m
-abbrev pub in-pass : Loop → Around → (m : ℕ) → Around
-in-pass l c m = record { level = c .level + 1; counters = ListN.set (c .counters) (c .level) (counter l m) }
+abbrev pub in-pass : Loop → Counters → (m : ℕ) → Counters
+in-pass l c m = record { level = c .level + 1; values = ListN.set (c .values) (c .level) (counter l m) }
 
 -- n passes, the first of which has number m
 unfoldable pub repeat : (ℕ → State → Result Stuck State) → (n m : ℕ) → State → Result Stuck State
 repeat pass zero m s = ok s
 repeat pass (suc n) m s = pass m s >>= repeat pass n (m + 1)
 
-unfoldable pub run : World → Block → Around → State → Result Stuck State
+unfoldable pub run : Layout → Block → Counters → State → Result Stuck State
 run e (stops n) c s = ok s
 run e (plain n o rest) c s = do
   s ← step e n o c s

@@ -6,7 +6,7 @@ use lib.ListN.{length, take, drop, set, replicate}
 use Rattle.numbers.specs.Result.{Result, ok, stop}
 use Rattle.numbers.specs.Words.{words, bytes}
 use Rattle.kernel.specs.Reading.{Fault}
-use Rattle.kernel.specs.Memory.{Ran, array-run, stream-run, lay-out, putting-back, left}
+use Rattle.kernel.specs.Memory.{Ran, array-run, stream-run, lay-out, putting-back, afterwards}
 use Rattle.kernel.specs.Answers.{check, fault-numbers, check-numbers, ending-numbers, printed}
 
 -- ---- files by hand
@@ -133,13 +133,13 @@ lent n = bytes (replicate n 7)
 
 -- how a run ended, what it read and wrote, and the lent area afterwards
 unfoldable pub run-numbers : (area : List ℕ) → Result Fault Ran → List ℕ
-run-numbers area (ok r) = ending-numbers (r .ending) ++ r .read ∷ r .written ∷ words (left (λ r. r .memory) area (ok r))
-run-numbers area (stop f) = fault-numbers f ++ words (left {A = Ran} (λ r. r .memory) area (stop f))
+run-numbers area (ok r) = ending-numbers (r .ending) ++ r .read ∷ r .written ∷ words (afterwards (λ r. r .memory) area (ok r))
+run-numbers area (stop f) = fault-numbers f ++ words (afterwards {A = Ran} (λ r. r .memory) area (stop f))
 
--- the lent area afterwards, behind the refusal's numbers if there is one
+-- the lent area afterwards, after the refusal's numbers if there is one
 unfoldable pub copy-numbers : (area : List ℕ) → Result Fault (List ℕ) → List ℕ
-copy-numbers area (ok m) = words (left (λ m. m) area (ok m))
-copy-numbers area (stop f) = fault-numbers f ++ words (left {A = List ℕ} (λ m. m) area (stop f))
+copy-numbers area (ok m) = words (afterwards (λ m. m) area (ok m))
+copy-numbers area (stop f) = fault-numbers f ++ words (afterwards {A = List ℕ} (λ m. m) area (stop f))
 
 unfoldable pub answer : Question → List ℕ
 answer (checking f) = check-numbers (check f)

@@ -9,10 +9,11 @@ use lib.IntN.{pos, natAbs}
 use Rattle.numbers.specs.Result.{Result, ok, stop, _>>=_, need}
 use Rattle.numbers.specs.Lists.{sum}
 use Rattle.numbers.specs.Words.{words, bytes}
-use Rattle.kernel.specs.File.{Rec, Kernel, input, output, only, length-of, count-of, index, array}
+use Rattle.kernel.specs.Numbers.{wrong-memory}
+use Rattle.kernel.specs.File.{Rec, Kernel, input, output, side-of, only, length-of, count-of, index, array}
 use Rattle.kernel.specs.Reading.{Fault, fault, read-file}
-use Rattle.kernel.specs.Blocks.{tree}
-use Rattle.kernel.specs.Machine.{World, State, Around, Stuck, stuck, run}
+use Rattle.kernel.specs.Machine.{Layout, State, Counters, Stuck, stuck, run}
+use Rattle.kernel.specs.Trees.{tree}
 
 -- "Array memory is the input (or output) arrays end to end in file order": with `length-of` for n the cells of a side's arrays
 -- before array q, and all of them; "Stream memory is their items likewise": with `count-of` the items
@@ -84,10 +85,10 @@ ran K (stop (stuck reason n s)) = record {
 }
 
 -- the arrays with their cells, or with their items, over an input memory
-unfoldable pub world : (n : Rec → ℕ) → Kernel → List ℕ → World
-world n K m = record {
+unfoldable pub layout : (n : Rec → ℕ) → Kernel → List ℕ → Layout
+layout n K m = record {
   size = λ q. n (array K q);
-  base = λ q. before (array K q .code) n K q;
+  base = λ q. before (side-of (array K q)) n K q;
   input = m;
 }
 
@@ -95,24 +96,24 @@ world n K m = record {
 unfoldable pub start : (n : Rec → ℕ) → Kernel → State
 start n K = record { registers = replicate 48 none; places = replicate 8 0; output = replicate (total output n K) 0 }
 
-abbrev pub outside : Around
-outside = record { level = 0; counters = replicate 4 (pos 0) }
+abbrev pub outside : Counters
+outside = record { level = 0; values = replicate 4 (pos 0) }
 
 unfoldable pub array-ran : Kernel → List ℕ → Ran
-array-ran K m = ran K (run (world length-of K m) (tree (K .array-program)) outside (start length-of K))
+array-ran K m = ran K (run (layout length-of K m) (tree (K .array-program)) outside (start length-of K))
 
 unfoldable pub stream-ran : Kernel → List ℕ → Ran
-stream-ran K m = ran K (run (world count-of K m) (tree (K .stream-program)) outside (start count-of K))
+stream-ran K m = ran K (run (layout count-of K m) (tree (K .stream-program)) outside (start count-of K))
 
 -- ---- the calls: "read first, then give 21, and run unchecked files as well"
 
--- what `work` makes of a file and two lent byte areas, of which the first has `from` words and the second `to`:
--- "any length but four bytes for each number gives 21"
+-- a call on a file and two lent byte areas, of which the first has `from` words and the second `to`, with what it makes of the kernel and the
+-- first area's words: "any length but four bytes for each number gives 21"
 unfoldable pub on-areas : {A : Type 0} → (from to : Kernel → ℕ) → (Kernel → List ℕ → A) → (file first second : List ℕ) → Result Fault A
-on-areas from to work file first second = do
+on-areas from to makes file first second = do
   K ← read-file file
-  _ ← need (fault 21 0 0) (eqb (length first) (4 * from K) && eqb (length second) (4 * to K))
-  ok (work K (words first))
+  _ ← need (fault wrong-memory 0 0) (eqb (length first) (4 * from K) && eqb (length second) (4 * to K))
+  ok (makes K (words first))
 
 unfoldable pub array-run : (file first second : List ℕ) → Result Fault Ran
 array-run = on-areas (total input length-of) (total output length-of) array-ran
@@ -127,6 +128,6 @@ unfoldable pub putting-back : (file first second : List ℕ) → Result Fault (L
 putting-back = on-areas (total output count-of) (total output length-of) put-back
 
 -- the second area afterwards: the memory made, or "A refusal leaves lent memory untouched"
-unfoldable pub left : {A : Type 0} → (A → List ℕ) → (second : List ℕ) → Result Fault A → List ℕ
-left memory second (ok a) = bytes (memory a)
-left memory second (stop e) = second
+unfoldable pub afterwards : {A : Type 0} → (A → List ℕ) → (second : List ℕ) → Result Fault A → List ℕ
+afterwards memory second (ok a) = bytes (memory a)
+afterwards memory second (stop e) = second

@@ -6,3 +6,5 @@ pub mod Tests
 pub mod Results
 pub mod Areas
 pub mod Signs
+pub mod Ranges
+pub mod Rows

@@ -76,6 +76,39 @@ pub fn low32(z: i64) -> u32
     (z & 0xffff_ffff) as u32
 }
 
+// ---- ranges
+
+// Whether a word is one of low to high.
+pub fn between(low: u32, high: u32, w: u32) -> bool
+    ensures { λ r. ⌜ r ≡ Words.between low high w ⌝ }
+{
+    if w < low {
+        return false;
+    }
+    w <= high
+}
+
+// Whether a word's signed number is within n of 0.
+pub fn near(n: u32, w: u32) -> bool
+    requires { ⌜ n ≤ 2147483647 ⌝ }
+    ensures { λ r. ⌜ r ≡ Words.within n (Words.signed w) ⌝ }
+{
+    if w <= n {
+        return true;
+    }
+    4294967295 - n < w
+}
+
+// Whether a number is one of 0 to n - 1.
+pub fn inside(n: u32, z: i64) -> bool
+    ensures { λ r. ⌜ r ≡ Words.inside n z ⌝ }
+{
+    if z < 0 {
+        return false;
+    }
+    z < (n as i64)
+}
+
 // ---- what registers do
 
 pub fn plus(a: u32, b: u32) -> u32

@@ -6,18 +6,18 @@ use Rattle.numbers.specs.Result.{Result, ok, stop}
 use Rattle.kernel.specs.Reading.{Fault}
 use Rattle.kernel.specs.Memory as Memory
 use Rattle.kernel.specs.Answers.{fault-numbers, ending-numbers, check-numbers}
-use Rattle.checking.specs.declared.Checked.{Checked}
-use Rattle.checking.specs.View as Checking
-use Rattle.runs.specs.declared.Ran.{Ran}
-use Rattle.runs.specs.declared.Done.{Done}
-use Rattle.runs.specs.View.{Told, told, answer, finished, done}
+use Rattle.check_file.specs.declared.Checked.{Checked}
+use Rattle.check_file.specs.View as Checking
+use Rattle.run_calls.specs.declared.Ran.{Ran}
+use Rattle.run_calls.specs.declared.Done.{Done}
+use Rattle.run_calls.specs.View.{Told, told, answer, finished, done}
 use Rattle.planner.specs.Words.{Tells, array-run-numbers, stream-run-numbers, move-numbers}
 
 -- the check: the parts of an answer x that is y
 pub check-tells : (word : ℕ) (x y : Checked) → x ≡ y → Tells word (check-numbers (Checking.answer y)) → Tells word (check-numbers (Checking.answer x))
 check-tells word x y e t = subst (λ z. Tells word (check-numbers (Checking.answer z))) (sym e) t
 
--- ---- runs: the same, of what is told of a run without its memory
+-- ---- runs: the same, of what a run answers without its memory
 
 unfoldable pub array-told : Result Fault Told → List ℕ
 array-told (ok t) = ending-numbers (t .ending)

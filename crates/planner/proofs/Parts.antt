@@ -1,4 +1,4 @@
--- The parts of a word: a last part that is 0 need not be told, and each part is read back as the number that was told.
+-- The parts of a word: a last part that is 0 need not be given, and each part is read back as the number that was given.
 use Prim.Native.Nat.{ℕ, zero, suc, _+_, _*_, _/_, _%_}
 use mathlib.Core.Path.{_≡_, refl, ap, _∙_}
 use mathlib.Core.List.{List, [], _∷_, _++_}

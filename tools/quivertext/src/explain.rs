@@ -59,8 +59,11 @@ fn or_broken(scope: Result<Scope, String>, places: impl Fn(&Scope) -> String) ->
 }
 
 fn counted(file: &[u8], section: u32) -> String {
-    let names = ["registers", "buffers", "arrays", "array program", "stream program", "derivation"];
-    let name = (section as usize).checked_sub(1).and_then(|place| names.get(place));
+    let name = match section {
+        1 => Some("registers"),
+        2 => Some("buffers"),
+        _ => Section::numbered(section).map(Section::title),
+    };
     match (name, count_of(file, section)) {
         (Some(name), Some(count)) => format!("  {name}: the count is {count}\n"),
         _ => format!("There is no count of section {section} in this file.\n"),
@@ -119,7 +122,7 @@ fn run_place(number: u32, program: Section, statement: u32, scope: &Scope) -> St
     }
 }
 
-/// One place of a section: its number and its line, or that it is behind the section's records.
+/// One place of a section: its number and its line, or that it is past the section's records.
 fn shown(section: Section, number: u32, scope: &Scope) -> String {
     let records = scope.kernel.records(section);
     let line = match records.get(number as usize) {
@@ -132,7 +135,7 @@ fn shown(section: Section, number: u32, scope: &Scope) -> String {
     format!("  {:<14} {number:>4}: {line}{place}\n", section.title())
 }
 
-/// The numbers of the hold rows behind a for.
+/// The numbers of the hold rows after a for.
 fn rows(opening: usize, scope: &Scope) -> std::ops::Range<usize> {
     let records = scope.kernel.records(Section::Derivation);
     let first = opening.saturating_add(1).min(records.len());

@@ -85,7 +85,7 @@ impl Kernel {
         }
         match rest.len() {
             0 => Ok(kernel),
-            left => Err(format!("{} bytes are left over behind the derivation; expected the file's end", left * 4)),
+            left => Err(format!("{} bytes are left over after the derivation; expected the file's end", left * 4)),
         }
     }
 }
@@ -103,11 +103,11 @@ pub fn count_of(bytes: &[u8], section: u32) -> Option<i32> {
 
 /// Takes so many numbers off the rest of a file.
 fn take<'a>(rest: &mut &'a [i32], count: usize, what: &str) -> Result<&'a [i32], String> {
-    let Some((taken, behind)) = rest.split_at_checked(count) else {
+    let Some((taken, after)) = rest.split_at_checked(count) else {
         let (wanted, left) = (count.saturating_mul(4), rest.len() * 4);
         return Err(format!("the file is too short: {left} bytes are left; expected {wanted} bytes for {what}"));
     };
-    *rest = behind;
+    *rest = after;
     Ok(taken)
 }
 

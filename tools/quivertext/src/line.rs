@@ -185,7 +185,7 @@ impl<'a> Words<'a> {
     pub fn end(&self) -> Result<(), String> {
         match self.rest.trim() {
             "" => Ok(()),
-            more => Err(format!("'{more}' stands behind a whole line; expected the line's end or ; and a comment")),
+            more => Err(format!("'{more}' comes after a whole line; expected the line's end or ; and a comment")),
         }
     }
 
@@ -259,7 +259,7 @@ impl<'a> Words<'a> {
     }
 }
 
-/// The number behind the letter, if it is below the limit and written plainly (r0, not r00 or r+0).
+/// The number after the letter, if it is below the limit and written plainly (r0, not r00 or r+0).
 fn numbered(word: &str, letter: char, limit: i32) -> Option<i32> {
     let number = word.strip_prefix(letter)?.parse().ok().filter(|number| (0..limit).contains(number))?;
     (format!("{letter}{number}") == word).then_some(number)

@@ -36,7 +36,7 @@ pub fn pack(text: &str) -> Result<Scope, Wrong> {
     }
 }
 
-/// The heading that is due next; nothing behind the derivation's.
+/// The heading that is due next; nothing after the derivation's.
 fn heading(stage: &Stage) -> Option<&'static str> {
     match stage {
         Stage::Nothing => Some("registers N"),
@@ -93,7 +93,7 @@ fn is_heading(content: &str, section: Section) -> bool {
     content.split_whitespace().eq(section.title().split(' '))
 }
 
-/// A count that is a section of its own. Behind `raw` it may be any number.
+/// A count that is a section of its own. After `raw` it may be any number.
 fn count(content: &str, name: &str, low: i32, high: i32) -> Result<i32, String> {
     let mut words = Words { rest: content };
     let word = words.next(name)?;

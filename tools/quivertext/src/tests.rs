@@ -116,7 +116,7 @@ fn bad_texts_are_said_in_words() {
         (
             "read r0 from",
             "read r0 from 3",
-            "10: '3' stands behind a whole line; expected the line's end or ; and a comment",
+            "10: '3' comes after a whole line; expected the line's end or ; and a comment",
         ),
         ("write r0 1", "write", "11: the line ends too soon; expected r0 to r0"),
     ];

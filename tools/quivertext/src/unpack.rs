@@ -38,7 +38,7 @@ pub fn unpack(kernel: Kernel) -> String {
     text
 }
 
-/// Counts that do not read stand behind `raw`.
+/// Counts that do not read come after `raw`.
 fn count(name: &str, number: i32, low: i32, high: i32) -> String {
     let raw = if (low..=high).contains(&number) { "" } else { "raw " };
     format!("{name} {raw}{number}")

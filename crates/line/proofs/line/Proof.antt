@@ -1,7 +1,7 @@
 -- `line::line` meets its contract: the numbers of the answer, the last first, and the word before them.
 use mathlib.Core.Path.{sym, subst}
 use Rattle.kernel.specs.Answers as Answers
-use Rattle.checking.specs.View.{answer}
+use Rattle.check_file.specs.View.{answer}
 use Rattle.line.specs.View.{Shows}
 use borrow.Author.Needs.{needs}
 use Rattle.line.proofs.line.Statement.{statement}
@@ -109,13 +109,14 @@ returns-2 c =
     subst (λ a. Shows (c .word2 .result) (Answers.line (answer a))) (sym (c .before .before .before .before .before .before .before .a .given .1)) (c .word2 .ensures _ first)
 
 returns-3 : tie.Need-returns-3
-unfolding Answers.line Answers.spaced Answers.break-numbers answer
+unfolding Answers.line Answers.spaced Answers.refusal-numbers answer
 returns-3 c =
-    let last = c .before .before .before .before .before .number4 .ensures .0 _ (c .before .before .before .before .before .before .ended3 .ensures .0) in
-    let third = c .before .before .before .before .number5 .ensures .0 _ last in
-    let second = c .before .before .before .number6 .ensures .0 _ third in
+    let rule = c .before .before .before .before in
+    let last = rule .before .before .number4 .ensures .0 _ (rule .before .before .before .ended3 .ensures .0) in
+    let third = rule .before .number5 .ensures .0 _ last in
+    let second = rule .number6 .ensures .0 _ third in
     let first = c .before .before .number7 .ensures .0 _ second in
-    subst (λ a. Shows (c .word3 .result) (Answers.line (answer a))) (sym (c .before .before .before .before .before .before .before .before .a2 .given .1)) (c .word3 .ensures _ first)
+    subst (λ a. Shows (c .word3 .result) (Answers.line (answer a))) (sym (rule .before .before .before .before .before .a2 .given .1)) (c .word3 .ensures _ first)
 
 pub line-spec : {M : Type 1} → statement M
 line-spec =

@@ -1,37 +1,39 @@
--- `memory::bases` meets its contract. The invariant: the table is filled so far; behind the last array stands nothing, on whose side is no array.
+-- `memory::bases` meets its contract. The invariant: the table is filled so far; past the last array there is none, on whose side is no array.
 use Prim.Native.Nat.{_-_, _<_, _≤_}
 use mathlib.Core.Path.{_∙_}
 use native.Mathlib.Omega.{arith}
 use borrow.Author.Needs.{needs}
-use Rattle.memory.specs.View.{field-of}
+use Rattle.parts.specs.Arrays.{arrays-of}
 use Rattle.memory.proofs.Tables.{Filled, filled-none, filled-more, filled-all}
-use Rattle.memory.proofs.Rows.{array-there, fewer, base, base-is, base-past}
+use Rattle.parts.proofs.Arrays.{array-there, fewer}
+use Rattle.memory.specs.Sizes.{base}
+use Rattle.memory.proofs.Rows.{base-is, base-past}
 use Rattle.memory.proofs.bases.Statement.{statement}
 use Rattle.memory.proofs.bases.Tie as tie
 
 abbrev Inv-loop : tie.InvT-loop
-Inv-loop file n field t₀ q₀ t q = (q ≤ n) × Filled (base file n (field-of field)) q t
+Inv-loop file n m t₀ q₀ t q = (q ≤ n) × Filled (base m (arrays-of file n)) q t
 
 abbrev μ-loop : tie.MeasureT-loop
-μ-loop file n field t₀ q₀ t q = n - q
+μ-loop file n m t₀ q₀ t q = n - q
 
 loop-holds : tie.Need-loop-holds Inv-loop μ-loop
 loop-holds c =
     let a = c .before .args in
-    (omega arith, filled-none (base (a .file .now) (a .n) (field-of (a .field))))
+    (omega arith, filled-none (base (a .m) (arrays-of (a .file .now) (a .n))))
 
-number-requires : tie.Need-number-requires Inv-loop μ-loop
-number-requires c κs =
+side-of-requires : tie.Need-side-of-requires Inv-loop μ-loop
+side-of-requires c κs =
     let s = c .before .before .before in
-    (array-there (s .args .file .now) (s .args .n) (c .before .loop .q) (c .loop-test .taken) (s .pre .0), omega arith)
+    array-there (s .args .file .now) (s .args .n) (c .before .loop .q) (c .loop-test .taken) (s .pre)
 
 total-requires : tie.Need-total-requires Inv-loop μ-loop
 total-requires c κs =
     let s = c .before .before .before .before in
-    (fewer (c .before .before .loop .q) (c .before .before .loop .inv .0) (s .pre .0), s .pre .1)
+    fewer (c .before .before .loop .q) (c .before .before .loop .inv .0) (s .pre)
 
 below-8 : (c : tie.After-total Inv-loop μ-loop) → c .before .before .before .loop .q < 8
-below-8 c = omega (arith, c .before .before .before .before .before .pre .0 .few, c .before .before .loop-test .taken)
+below-8 c = omega (arith, c .before .before .before .before .before .pre .few, c .before .before .loop-test .taken)
 
 mul-t : tie.Need-mul-t Inv-loop μ-loop
 mul-t c = omega (arith, below-8 c)
@@ -49,9 +51,9 @@ loop-again : tie.Need-loop-again Inv-loop μ-loop
 loop-again c =
     let a = c .before .before .before .before .before .args in
     let v = c .before .before .before .loop in
-    let here = base-is (a .file .now) (a .n) (v .q) (c .before .before .loop-test .taken) (field-of (a .field)) (c .before .number .result) (c .before .number .ensures) in (
+    let here = base-is (a .file .now) (a .n) (v .q) (c .before .before .loop-test .taken) (a .m) (c .before .side-of .result) (c .before .side-of .ensures) in (
       search needs,
-      filled-more (base (a .file .now) (a .n) (field-of (a .field))) (v .q) (c .total .result) (v .t) (v .inv .1) (below-8 c) (c .total .ensures .0 ∙ here),
+      filled-more (base (a .m) (arrays-of (a .file .now) (a .n))) (v .q) (c .total .result) (v .t) (v .inv .1) (below-8 c) (c .total .ensures .0 ∙ here),
     )
 
 returns : tie.Need-returns Inv-loop μ-loop
@@ -59,7 +61,7 @@ returns c =
     let s = c .before .before .before in
     let a = s .args in
     let v = c .before .loop in
-    filled-all (base (a .file .now) (a .n) (field-of (a .field))) (a .n) (v .q) (v .t) (c .loop-test .left) (v .inv .1) (base-past (a .file .now) (a .n) (s .pre .0) (field-of (a .field)))
+    filled-all (base (a .m) (arrays-of (a .file .now) (a .n))) (a .n) (v .q) (v .t) (c .loop-test .left) (v .inv .1) (λ q h. base-past (a .file .now) (a .n) q h (s .pre) (a .m))
 
 pub bases-spec : {M : Type 1} → statement M
 bases-spec =
@@ -68,7 +70,7 @@ bases-spec =
     Inv-loop
     μ-loop
     loop-holds
-    number-requires
+    side-of-requires
     total-requires
     mul-t
     array-write-t

@@ -5,10 +5,12 @@ use native.Mathlib.Nat.{zero-add}
 use native.Mathlib.Omega.{arith}
 use borrow.Author.Needs.{needs}
 use lib.ListN.{getD, drop}
+use Rattle.kernel.specs.File.{only}
 use Rattle.kernel.specs.Machine.{State}
 use Rattle.kernel.specs.Memory as Memory
-use Rattle.memory.specs.View.{array-at, arrays-of}
-use Rattle.memory.proofs.Rows.{only-is, array-there, moved-next, moved-over}
+use Rattle.parts.specs.Arrays.{array-at, arrays-of}
+use Rattle.parts.proofs.Arrays.{array-there}
+use Rattle.memory.proofs.Rows.{moved-next, moved-over}
 use Rattle.memory.proofs.moved.Statement.{statement}
 use Rattle.memory.proofs.moved.Tie as tie
 
@@ -23,22 +25,16 @@ abbrev μ-loop : tie.MeasureT-loop
 loop-holds : tie.Need-loop-holds Inv-loop μ-loop
 loop-holds c = (omega arith, omega arith, λ s e. zero-add _)
 
-number-requires : tie.Need-number-requires Inv-loop μ-loop
-number-requires c κs =
+place-requires : tie.Need-place-requires Inv-loop μ-loop
+place-requires c κs =
     let s = c .before .before .before in
-    (array-there (s .args .file .now) (s .args .n) (c .before .loop .q) (c .loop-test .taken) (s .pre), omega arith)
-
-entry-requires : tie.Need-entry-requires Inv-loop μ-loop
-entry-requires c κs = omega (arith, c .before .before .before .before .pre .few, c .before .loop-test .taken)
-
-chosen-requires : tie.Need-chosen-requires Inv-loop μ-loop
-chosen-requires c κs = search needs
+    (array-there (s .args .file .now) (s .args .n) (c .before .loop .q) (c .loop-test .taken) (s .pre), omega (arith, s .pre .few, c .loop-test .taken))
 
 cast-t : tie.Need-cast-t Inv-loop μ-loop
 cast-t c = search needs
 
 add-t : tie.Need-add-t Inv-loop μ-loop
-add-t c = omega (arith, c .chosen .ok, c .before .before .before .before .loop .inv .1, c .before .before .before .before .before .before .pre .few, c .before .before .before .loop-test .taken)
+add-t c = omega (arith, c .place .ok, c .before .before .loop .inv .1, c .before .before .before .before .pre .few, c .before .loop-test .taken)
 
 add-q : tie.Need-add-q Inv-loop μ-loop
 add-q c = search needs
@@ -48,13 +44,13 @@ loop-less c = search needs
 
 loop-again : tie.Need-loop-again Inv-loop μ-loop
 loop-again c =
-    let a = c .before .before .before .before .before .before .args in
-    let v = c .before .before .before .before .loop in (
+    let a = c .before .before .before .before .args in
+    let v = c .before .before .loop in (
       search needs,
-      omega (arith, c .chosen .ok, v .inv .1),
+      omega (arith, c .place .ok, v .inv .1),
       λ s e.
-          let more = c .chosen .ensures ∙ only-is (a .side) (λ _. getD (s .places) (v .q) 0) (array-at (a .file .now) (v .q)) (c .before .before .number .result) (c .before .entry .result) (c .before .before .number .ensures) (c .before .entry .ensures ∙ ap (λ ps. getD ps (v .q) 0) (sym e)) in
-          omega (arith, more, moved-next (a .file .now) (a .n) (v .q) (c .before .before .before .loop-test .taken) (a .side) s, v .inv .2 s e),
+          let more = c .place .ensures ∙ ap (λ ps. only (a .side) (λ _. getD ps (v .q) 0) (array-at (a .file .now) (v .q))) (sym e) in
+          omega (arith, more, moved-next (a .file .now) (a .n) (v .q) (c .before .loop-test .taken) (a .side) s, v .inv .2 s e),
     )
 
 returns : tie.Need-returns Inv-loop μ-loop
@@ -69,9 +65,7 @@ moved-spec =
     Inv-loop
     μ-loop
     loop-holds
-    number-requires
-    entry-requires
-    chosen-requires
+    place-requires
     cast-t
     add-t
     add-q

@@ -1,8 +1,8 @@
 -- `planner::checked_word` meets its contract: the parts of each answer of the check.
 use mathlib.Core.List.{[], _∷_}
 use borrow.Author.Needs.{needs}
-use Rattle.kernel.specs.Answers.{check-numbers, fault-numbers, break-numbers}
-use Rattle.checking.specs.View.{answer}
+use Rattle.kernel.specs.Answers.{check-numbers, fault-numbers, refusal-numbers}
+use Rattle.check_file.specs.View.{answer}
 use Rattle.planner.proofs.Parts.{untold}
 use Rattle.planner.proofs.Answered.{check-tells}
 use Rattle.planner.proofs.checked_word.Statement.{statement}
@@ -40,9 +40,9 @@ returns-2 c =
     check-tells _ _ _ (c .before .before .x .given .1) (c .refused-word .ensures)
 
 returns-3 : tie.Need-returns-3
-unfolding answer check-numbers break-numbers
+unfolding answer check-numbers refusal-numbers
 returns-3 c =
-    check-tells _ _ _ (c .before .before .x2 .given .1) (c .packed2 .ensures)
+    check-tells _ _ _ (c .before .before .before .x2 .given .1) (c .packed2 .ensures)
 
 pub checked-word-spec : {M : Type 1} → statement M
 checked-word-spec =

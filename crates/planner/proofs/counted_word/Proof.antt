@@ -1,7 +1,7 @@
 -- `planner::counted_word` meets its contract: the parts of each answer of the stream run.
 use borrow.Author.Needs.{needs}
 use Rattle.kernel.specs.Answers.{fault-numbers, ending-numbers}
-use Rattle.runs.specs.View.{answer}
+use Rattle.run_calls.specs.View.{answer}
 use Rattle.planner.proofs.Answered.{stream-told, stream-tells}
 use Rattle.planner.proofs.counted_word.Statement.{statement}
 use Rattle.planner.proofs.counted_word.Tie as tie

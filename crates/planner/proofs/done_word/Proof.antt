@@ -2,7 +2,7 @@
 use mathlib.Core.List.{[], _∷_}
 use borrow.Author.Needs.{needs}
 use Rattle.kernel.specs.Answers.{fault-numbers}
-use Rattle.runs.specs.View.{done}
+use Rattle.run_calls.specs.View.{done}
 use Rattle.planner.proofs.Parts.{untold}
 use Rattle.planner.proofs.Answered.{move-told, move-tells}
 use Rattle.planner.proofs.done_word.Statement.{statement}

@@ -2,7 +2,7 @@
 use mathlib.Core.List.{[], _∷_}
 use borrow.Author.Needs.{needs}
 use Rattle.kernel.specs.Answers.{fault-numbers, ending-numbers}
-use Rattle.runs.specs.View.{answer}
+use Rattle.run_calls.specs.View.{answer}
 use Rattle.planner.proofs.Parts.{untold}
 use Rattle.planner.proofs.Answered.{array-told, array-tells}
 use Rattle.planner.proofs.ran_word.Statement.{statement}

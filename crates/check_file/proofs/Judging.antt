@@ -1,0 +1,100 @@
+-- The walk from the beginning of the derivation to its end, and the answer that it comes to.
+use Prim.Native.Nat.{ℕ, _≤_, _<_, _^_}
+use mathlib.Core.Path.{_≡_, sym, ap, subst, _∙_}
+use mathlib.Core.Bool.{Bool, true, false, _&&_}
+use mathlib.Core.List.{List, [], _∷_}
+use native.Mathlib.Omega.{arith}
+use lib.Dec.{leb}
+use lib.ListN.{length, drop, take}
+use borrow.Author.Tests.{le-leb}
+use Rattle.numbers.specs.Result.{Result, stop, _>>=_, need, because}
+use Rattle.forms.specs.declared.Loops.{Loops}
+use Rattle.forms.specs.Code.{loop, loops, Turning}
+use Rattle.kernel.specs.Reading.{array-scope, open-loops}
+use Rattle.kernel.specs.Ledger as L
+use Rattle.kernel.specs.Derivation as S
+use Rattle.kernel.specs.Check as Check
+use Rattle.kernel.specs.Check.{walk-on}
+use Rattle.kernel.specs.Answers as Answers
+use Rattle.kernel.proofs.Walking.{walk-whole, walk-over, Low, walk-low}
+use Rattle.parts.specs.declared.Counts.{Counts}
+use Rattle.kernel.specs.Guarantees.{Nested}
+use Rattle.check_ledger.specs.View.{ledger, Bounded}
+use Rattle.check_take.specs.declared.Taken.{Taken}
+use Rattle.parts.specs.Parts.{ReadAs}
+use Rattle.check_take.specs.View.{place, Stood}
+use Rattle.parts.proofs.Parts.{K, reads, few, arrays-count, array-count, stream-count, rule-count, buffers-are}
+use Rattle.check_walk.specs.View.{Goes, Opens, Rests}
+use Rattle.check_walk.proofs.Walks.{goes-on, goes-nowhere, comes-over}
+use Rattle.check_file.specs.declared.Checked.the-variants.{Accepted, Refused}
+use Rattle.check_file.specs.View.{answer, refusal-at, Fresh}
+
+-- ---- the beginning
+
+pub no-loops : (ls : Loops) → loops ls ≡ [] → S.loops [] ≡ loops ls
+unfolding S.loops
+no-loops ls o = sym o
+
+module _ (file : List ℕ) (c : Counts) (e : ReadAs file c) (w : Taken) (f : Fresh w) where
+  pub stood : Stood c (w .at) (w .ledger)
+  stood = record { rules = omega (arith, f .rule); arrays = omega (arith, f .array); streams = omega (arith, f .stream); bounded = subst (λ n. Bounded n (w .ledger)) (sym (f .rule)) (f .bounded) }
+
+  pub opens : (ls : Loops) → ls .count ≡ 0 → Opens file c w ls
+  unfolding open-loops
+  opens ls o = record { opens = []; reads-on = subst (λ i. Nested (array-scope (K file c)) [] (drop i (K file c .array-program))) (sym (f .array)) (reads file c e .array-program); level = sym o }
+
+  stands : place (c .a) (c .b) [] (w .at) (w .ledger) ≡ S.beginning (K file c)
+  unfolding S.beginning
+  stands =
+      let l : ledger (c .a) (c .b) (w .ledger) ≡ L.fresh (K file c) =
+      (λ i. ledger (sym (arrays-count file c) i) (sym (buffers-are file c) i) (w .ledger))
+      ∙ f .fresh (K file c) (omega (arith, reads file c e .few-arrays)) (omega (arith, reads file c e .few-buffers)) in
+      λ i. record { rule = f .rule i; array = f .array i; stream = f .stream i; opened = []; ledger = l i }
+
+  -- ---- the end
+
+  module _ (r : Taken) (g : Goes file c [] w [] r) where
+    walked : Check.check-kernel (K file c) ≡ walk-on (K file c) (place (c .a) (c .b) [] (w .at) (w .ledger))
+    walked = walk-whole (K file c) ∙ ap (walk-on (K file c)) (sym stands)
+
+    refused : (r .number ≡ 0 → ⊥) → Check.check-kernel (K file c) ≡ stop (Check.refused-at (place (c .a) (c .b) [] (r .at) (r .ledger)) (r .number))
+    refused z = walked ∙ g ∙ goes-nowhere file c [] r z
+
+    pub answers-refused : (r .number ≡ 0 → ⊥) → answer (Refused (refusal-at (r .at) (r .number))) ≡ Answers.checked (Check.check-kernel (K file c))
+    unfolding answer Answers.checked
+    answers-refused z = sym (ap Answers.checked (refused z))
+
+    -- a refusal's places are small
+    pub low : (r .number ≡ 0 → ⊥) → (r .at .rule < 2 ^ 16) × (r .at .array < 2 ^ 16) × (r .at .stream < 2 ^ 16)
+    unfolding Low Check.check-kernel S.row-count S.beginning
+    low z =
+        let m = few file c e in
+        let b : Low 25600 (Check.check-kernel (K file c)) = walk-low (K file c) (omega (arith, arrays-count file c, buffers-are file c, m .arrays, m .buffers)) 25600 (length (K file c .derivation)) (S.beginning (K file c)) (omega (arith, rule-count file c, m .rules)) (omega (arith, rule-count file c, m .rules)) (omega (arith, rule-count file c, m .rules)) in
+        let (x, y, v) : (r .at .rule ≤ 25600) × (r .at .array ≤ 25600) × (r .at .stream ≤ 25600) = subst (Low 25600) (refused z) b in
+        (omega (arith, x), omega (arith, y), omega (arith, v))
+
+    module _ (z : r .number ≡ 0) (o : Rests file c false r) where
+      pub low-end : Stood c (r .at) (r .ledger) → (r .at .rule < 2 ^ 16) × (r .at .array < 2 ^ 16) × (r .at .stream < 2 ^ 16)
+      low-end s = let m = few file c e in (omega (arith, s .rules, m .rules), omega (arith, s .rules, s .arrays, m .rules), omega (arith, s .rules, s .streams, m .rules))
+
+      abbrev ending : Bool → Bool → Bool → Result ℕ (Unit {0})
+      ending a s t = do
+        _ ← need 17 (a && s)
+        _ ← need 18 true
+        need 19 t
+
+      ended : (t : Bool) → t ≡ Check.all-counted (K file c) (ledger (c .a) (c .b) (r .ledger)) → Check.check-kernel (K file c) ≡ Check.at (place (c .a) (c .b) [] (r .at) (r .ledger)) (ending true true t)
+      unfolding Check.finish Check.no-block
+      ended t k =
+          let (d, s, u) = comes-over file c r o in
+          walked ∙ g ∙ goes-on file c [] r z
+          ∙ walk-over (K file c) (place (c .a) (c .b) [] (r .at) (r .ledger)) (omega (arith, rule-count file c, d))
+          ∙ (λ i. Check.at (place (c .a) (c .b) [] (r .at) (r .ledger)) (ending (le-leb (length (K file c .array-program)) (r .at .array) (omega (arith, array-count file c, s)) i) (le-leb (length (K file c .stream-program)) (r .at .stream) (omega (arith, stream-count file c, u)) i) (sym k i)))
+
+      pub answers-counted : true ≡ Check.all-counted (K file c) (ledger (c .a) (c .b) (r .ledger)) → answer Accepted ≡ Answers.checked (Check.check-kernel (K file c))
+      unfolding answer Answers.checked Check.at because need _>>=_
+      answers-counted k = sym (ap Answers.checked (ended true k))
+
+      pub answers-uncounted : false ≡ Check.all-counted (K file c) (ledger (c .a) (c .b) (r .ledger)) → answer (Refused (refusal-at (r .at) 19)) ≡ Answers.checked (Check.check-kernel (K file c))
+      unfolding answer Answers.checked Check.at because need _>>=_
+      answers-uncounted k = sym (ap Answers.checked (ended false k))

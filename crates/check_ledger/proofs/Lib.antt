@@ -1,0 +1,5 @@
+pub mod Rows
+pub mod Bounds
+pub mod Steps
+pub mod Loops
+pub mod Tests

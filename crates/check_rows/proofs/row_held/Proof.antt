@@ -1,0 +1,30 @@
+-- `check_rows::row_held` meets its contract.
+use borrow.Author.Needs.{needs}
+use Rattle.parts.specs.Records.{rec}
+use Rattle.check_rows.proofs.Stating.{states-nothing, states-something}
+use Rattle.check_rows.proofs.row_held.Statement.{statement}
+use Rattle.check_rows.proofs.row_held.Tie as tie
+
+form-of-requires : tie.Need-form-of-requires
+form-of-requires c κs = search needs
+
+returns : tie.Need-returns
+returns c =
+    let t = c .before .before in
+    let e = t .form-of .ensures in
+    (states-nothing (rec (t .before .args .r)) _ e (c .if1 .taken), e)
+
+cast-number : tie.Need-cast-number
+cast-number c = search needs
+
+add-number : tie.Need-add-number
+add-number c = search needs
+
+returns-2 : tie.Need-returns-2
+returns-2 c =
+    let t = c .before .before .before in
+    let e = t .form-of .ensures in
+    (states-something (rec (t .before .args .r)) _ e (c .before .if1 .left), e)
+
+pub row-held-spec : {M : Type 1} → statement M
+row-held-spec = tie.close (tie.spec form-of-requires returns cast-number add-number returns-2)

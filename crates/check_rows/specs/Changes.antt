@@ -1,0 +1,32 @@
+-- What becomes of a form when the counter of a level is changed; and a ledger that hold rows state: its forms are those of a file.
+use Prim.Native.Nat.{ℕ, _^_}
+use mathlib.Core.List.{List}
+use lib.ListN.{getD}
+use lib.IntN.{ℤ}
+use Rattle.forms.specs.Form as F
+use Rattle.forms.specs.Code.{Within}
+use Rattle.forms.specs.declared.Form.{Form}
+use Rattle.check_ledger.specs.View.{zero-form, nothing}
+use Rattle.check_ledger.specs.declared.Held.{Held}
+use Rattle.check_ledger.specs.declared.Ledger.{Ledger}
+use Rattle.check_rows.specs.declared.Change.{Change}
+use Rattle.check_rows.specs.declared.Change.the-variants.{At, By}
+
+-- the counter is put at a value, or goes a step on
+unfoldable pub with-change : (level : ℕ) → Change → F.Form → F.Form
+with-change level (At c) = F.put-at level c
+with-change level (By step) = F.moved-by level step
+
+unfoldable pub amount : Change → ℤ
+amount (At c) = c
+amount (By step) = step
+
+abbrev pub StatedForms : List Form → Type 0
+StatedForms p = (q : ℕ) → Within (2 ^ 20) (2 ^ 20) (getD p q zero-form)
+
+abbrev pub StatedHeld : List Held → Type 0
+StatedHeld p = (b : ℕ) → Within (2 ^ 20) (2 ^ 20) (getD p b nothing .index)
+
+pub record Stated (rows : Ledger) : Type 0 where
+  pub at-position : StatedForms (rows .positions)
+  pub at-buffer : StatedHeld (rows .held)

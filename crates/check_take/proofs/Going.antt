@@ -1,0 +1,144 @@
+-- After a rule: where the derivation stands, and that the array program reads on, statement by statement.
+use Prim.Native.Nat.{ℕ, suc, _+_, _≤_, _<_}
+use mathlib.Core.Path.{_≡_, sym, subst}
+use mathlib.Core.Bool.{true, false≢true}
+use mathlib.Core.List.{List, _∷_}
+use native.Mathlib.Omega.{arith}
+use lib.Dec.{eqb}
+use lib.ListN.{getD, drop}
+use borrow.Author.Tests.{eqb-true}
+use Rattle.numbers.proofs.Tests.{and-left}
+use Rattle.kernel.specs.File.{Rec, nothing, ifs, elses, ends}
+use Rattle.kernel.specs.Reading.{Scope, array-scope, Open, open-for, open-if, open-else}
+use Rattle.kernel.specs.Derivation as Derivation
+use Rattle.kernel.specs.Derivation.{Rule, same-rule, read-rule, fill-rule, use-rule, move-rule, write-rule, for-rule, if-rule, else-rule, end-rule, no-rule}
+use Rattle.kernel.specs.Check as Check
+use Rattle.kernel.specs.Guarantees.{Nested}
+use Rattle.kernel.proofs.Fronts.{read-plain, read-if, read-else, read-end-for, read-end-if, plain-said}
+use Rattle.kernel.proofs.Sayings.{says-if, says-else, says-end, there-at}
+use Rattle.parts.specs.declared.Counts.{Counts}
+use Rattle.parts.specs.Parts.{kernel}
+use Rattle.check_ledger.specs.declared.Ledger.{Ledger}
+use Rattle.check_ledger.specs.View.{Bounded}
+use Rattle.check_rules.specs.View.{PlainRule, arrays-taken}
+use Rattle.check_take.specs.declared.Place.{Place}
+use Rattle.check_take.specs.declared.Taken.{Taken}
+use Rattle.check_take.specs.View.{past, Stood, Onward, ReadsOn, array-there, stream-there}
+use Rattle.check_take.proofs.Comes.{Fitting}
+use Rattle.check_take.proofs.Statements.{passing}
+
+-- ---- where the derivation stands
+
+pub onward : (c : Counts) (at : Place) (l : Ledger) (r : Taken) (arrays : ℕ) (m : Ledger) → arrays ≤ 1 → Stood c at l → at .rule < c .d → Bounded (at .rule + 1) m → r ≡ past at arrays m → Onward c at r
+onward c at l r arrays m few s h b e =
+    subst (Onward c at) (sym e) (record {
+      stood = record { rules = omega arith; arrays = omega (arith, s .arrays); streams = omega (arith, s .streams); bounded = b };
+      further-on = omega arith;
+    })
+
+pub one-at-most : (r : Rule) → arrays-taken r ≤ 1
+unfolding arrays-taken
+one-at-most same-rule = omega arith
+one-at-most read-rule = omega arith
+one-at-most fill-rule = omega arith
+one-at-most use-rule = omega arith
+one-at-most move-rule = omega arith
+one-at-most write-rule = omega arith
+one-at-most for-rule = omega arith
+one-at-most if-rule = omega arith
+one-at-most else-rule = omega arith
+one-at-most end-rule = omega arith
+one-at-most no-rule = omega arith
+
+-- ---- the program reads on
+
+-- after the statement there, one place further
+module _ (scope : Scope) (rs : List Rec) where
+  pub one-further : {os : List Open} (i : ℕ) → Nested scope os (drop (suc i) rs) → Nested scope os (drop (i + 1) rs)
+  one-further {os} i n =
+      let e : suc i ≡ i + 1 = omega arith in
+      subst (λ i. Nested scope os (drop i rs)) e n
+
+  plain-reads : (os : List Open) (i : ℕ) → (1 ≤ getD rs i nothing .code) × (getD rs i nothing .code < 8) → Nested scope os (drop i rs) → Nested scope os (drop (i + 1) rs)
+  plain-reads os i (low, high) n =
+      let (o, e) = plain-said scope rs os i (there-at rs i low) n (λ z. omega (arith, z, high)) (λ z. omega (arith, z, high)) (omega (arith, high)) in
+      one-further i (read-plain scope rs i n e .2)
+
+-- after a plain rule
+module _ (file : List ℕ) (c : Counts) (at : Place) (opens : List Open) (n : ReadsOn file c opens at) (d : Derivation.Place) where
+  abbrev A : Rec
+  A = array-there file c at
+
+  abbrev S : Rec
+  S = stream-there file c at
+
+  abbrev After : ℕ → Type 0
+  After arrays = Nested (array-scope (kernel file c)) opens (drop (at .array + arrays) (kernel file c .array-program))
+
+  one-on : (1 ≤ A .code) × (A .code < 8) → After 1
+  one-on h = plain-reads (array-scope (kernel file c)) (kernel file c .array-program) opens (at .array) h n
+
+  none-on : After 0
+  none-on =
+      let e : at .array ≡ at .array + 0 = omega arith in
+      subst (λ i. Nested (array-scope (kernel file c)) opens (drop i (kernel file c .array-program))) e n
+
+  pub rule-reads : (r : Rule) → PlainRule r → Check.fits (kernel file c) d r A S ≡ true → After (arrays-taken r)
+  unfolding arrays-taken Check.fits
+  rule-reads same-rule l h = one-on (passing (kernel file c) d same-rule A S h)
+  rule-reads read-rule l h = one-on (passing (kernel file c) d read-rule A S h)
+  rule-reads fill-rule l h = none-on
+  rule-reads use-rule l h = one-on (passing (kernel file c) d use-rule A S h)
+  rule-reads move-rule l h = none-on
+  rule-reads write-rule l h = one-on (passing (kernel file c) d write-rule A S h)
+  rule-reads for-rule l h = absurd l
+  rule-reads if-rule l h = absurd l
+  rule-reads else-rule l h = absurd l
+  rule-reads end-rule l h = absurd l
+  rule-reads no-rule l h = absurd (false≢true h)
+
+-- after a rule that opens or closes a block: the code of its statement, where it fits
+pub code-of : (m n : ℕ) (a s : Rec) → Check.codes m n a s ≡ true → a .code ≡ m
+unfolding Check.codes
+code-of m n a s h = eqb-true (a .code) m (and-left _ (eqb (s .code) n) h)
+
+module _ (file : List ℕ) (c : Counts) (os : List Derivation.Opened) (at : Place) (l : Ledger) where
+  abbrev a : Rec
+  a = array-there file c at
+
+  abbrev s : Rec
+  s = stream-there file c at
+
+  if-code : Fitting file c os at l 8 ≡ true → a .code ≡ ifs
+  unfolding Check.fits Derivation.rule
+  if-code h = code-of 9 9 a s (and-left _ (Check.same-p a s) h)
+
+  else-code : Fitting file c os at l 9 ≡ true → a .code ≡ elses
+  unfolding Check.fits Derivation.rule
+  else-code h = code-of 10 10 a s h
+
+  end-code : Fitting file c os at l 10 ≡ true → a .code ≡ ends
+  unfolding Check.fits Derivation.rule
+  end-code h = code-of 11 11 a s h
+
+  abbrev scope : Scope
+  scope = array-scope (kernel file c)
+
+  abbrev rs : List Rec
+  rs = kernel file c .array-program
+
+  module _ (m : Ledger) (r : Taken) (e : r ≡ past at 1 m) where
+    after-it : (opens : List Open) → Nested scope opens (drop (suc (at .array)) rs) → ReadsOn file c opens (r .at)
+    after-it opens n = subst (λ (r : Taken). ReadsOn file c opens (r .at)) (sym e) (one-further scope rs (at .array) n)
+
+    pub if-reads : Fitting file c os at l 8 ≡ true → (opens : List Open) → ReadsOn file c opens at → ReadsOn file c (open-if ∷ opens) (r .at)
+    if-reads h opens n = after-it (open-if ∷ opens) (read-if scope rs (at .array) n (says-if a (if-code h)) .2)
+
+    pub else-reads : Fitting file c os at l 9 ≡ true → (opens : List Open) → ReadsOn file c (open-if ∷ opens) at → ReadsOn file c (open-else ∷ opens) (r .at)
+    else-reads h opens n = after-it (open-else ∷ opens) (read-else scope rs (at .array) n (says-else a (else-code h)))
+
+    pub end-if-reads : Fitting file c os at l 10 ≡ true → (opens : List Open) → ReadsOn file c (open-else ∷ opens) at → ReadsOn file c opens (r .at)
+    end-if-reads h opens n = after-it opens (read-end-if scope rs (at .array) n (says-end a (end-code h)))
+
+    pub end-for-reads : Fitting file c os at l 10 ≡ true → (passes : ℕ) (opens : List Open) → ReadsOn file c (open-for passes ∷ opens) at → ReadsOn file c opens (r .at)
+    end-for-reads h passes opens n = after-it opens (read-end-for scope rs (at .array) n (says-end a (end-code h)))

@@ -1,0 +1,7 @@
+pub mod Comes
+pub mod Standing
+pub mod Statements
+pub mod Taking
+pub mod Going
+pub mod Limit
+pub mod Entering

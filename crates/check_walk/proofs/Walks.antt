@@ -1,0 +1,141 @@
+-- How the walk goes on: a rule that is taken, one stretch after another, and where a block stops.
+use Prim.Native.Nat.{ℕ, _≤_, _<_}
+use mathlib.Core.Path.{_≡_, refl, sym, ap, subst, _∙_}
+use mathlib.Core.Bool.{Bool, true, false, cond, _&&_, false≢true}
+use mathlib.Core.Logic.{inl, inr}
+use mathlib.Core.List.{List, [], _∷_}
+use native.Mathlib.Omega.{arith}
+use lib.Dec.{leb}
+use lib.ListN.{length}
+use borrow.Author.Tests.{eq-eqb, ne-eqb, lt-leb, le-leb}
+use Rattle.numbers.specs.Result.{Result, ok, stop, _>>=_, need, because}
+use Rattle.kernel.specs.File.{Kernel}
+use Rattle.kernel.specs.Derivation as S
+use Rattle.kernel.specs.Derivation.{Opened, Place}
+use Rattle.kernel.specs.Check as Check
+use Rattle.kernel.specs.Check.{refused-at, no-block, finish, walk-on}
+use Rattle.kernel.proofs.Walking.{walk-over, walk-take}
+use Rattle.parts.specs.declared.Counts.{Counts}
+use Rattle.parts.specs.Parts.{kernel}
+use Rattle.check_take.specs.declared.Taken.{Taken}
+use Rattle.check_take.specs.View.{place, taken, refusal, rule-code, TakesRule, Closing}
+use Rattle.parts.proofs.Parts.{array-count, stream-count, rule-count}
+use Rattle.check_walk.specs.View.{Goes, Rests}
+
+module _ (file : List ℕ) (c : Counts) where
+  abbrev K : Kernel
+  K = kernel file c
+
+  abbrev at-place : List Opened → Taken → Place
+  at-place os w = place (c .a) (c .b) os (w .at) (w .ledger)
+
+  -- ---- one stretch after another
+
+  taken-goes : (os : List Opened) (r : Taken) → r .number ≡ 0 → taken (c .a) (c .b) os r ≡ ok (at-place os r)
+  unfolding taken
+  taken-goes os r z = ap (λ (t : Bool). cond t (ok (at-place os r)) (stop (refused-at (at-place os r) (r .number)))) (eq-eqb (r .number) 0 z)
+
+  taken-stops : (os : List Opened) (r : Taken) → (r .number ≡ 0 → ⊥) → taken (c .a) (c .b) os r ≡ stop (refused-at (at-place os r) (r .number))
+  unfolding taken
+  taken-stops os r z = ap (λ (t : Bool). cond t (ok (at-place os r)) (stop (refused-at (at-place os r) (r .number)))) (ne-eqb (r .number) 0 z)
+
+  pub goes-on : (os : List Opened) (r : Taken) → r .number ≡ 0 → (taken (c .a) (c .b) os r >>= walk-on K) ≡ walk-on K (at-place os r)
+  unfolding _>>=_
+  goes-on os r z = ap (λ x. x >>= walk-on K) (taken-goes os r z)
+
+  pub goes-nowhere : (os : List Opened) (r : Taken) → (r .number ≡ 0 → ⊥) → (taken (c .a) (c .b) os r >>= walk-on K) ≡ stop (refused-at (at-place os r) (r .number))
+  unfolding _>>=_
+  goes-nowhere os r z = ap (λ x. x >>= walk-on K) (taken-stops os r z)
+
+  -- nothing taken
+  pub goes-none : (os : List Opened) (w : Taken) → w .number ≡ 0 → Goes file c os w os w
+  goes-none os w z = sym (goes-on os w z)
+
+  -- a rule taken
+  pub goes-rule : (os os′ : List Opened) (w r : Taken) → w .at .rule < c .d → TakesRule file c os (w .at) (w .ledger) os′ r → Goes file c os w os′ r
+  goes-rule os os′ w r h t = walk-take K (at-place os w) (omega (arith, h, rule-count file c)) ∙ ap (λ x. x >>= walk-on K) (sym t)
+
+  -- one stretch, then another
+  pub goes-then : (os os₁ os₂ : List Opened) (w e r : Taken) → Goes file c os w os₁ e → e .number ≡ 0 → Goes file c os₁ e os₂ r → Goes file c os w os₂ r
+  goes-then os os₁ os₂ w e r g z h = g ∙ goes-on os₁ e z ∙ h
+
+  -- a refusal stays one, whatever is open
+  pub goes-stop : (os os₁ os₂ : List Opened) (w e : Taken) → Goes file c os w os₁ e → (e .number ≡ 0 → ⊥) → Goes file c os w os₂ e
+  goes-stop os os₁ os₂ w e g z = g ∙ goes-nowhere os₁ e z ∙ sym (goes-nowhere os₂ e z)
+
+  -- ---- where a block stops
+
+  module _ (os : List Opened) (w r : Taken) where
+    refused-goes : (number : ℕ) → (number ≡ 0 → ⊥) → r ≡ refusal (w .at) (w .ledger) number → walk-on K (at-place os w) ≡ stop (refused-at (at-place os w) number) → Goes file c os w os r
+    refused-goes number z e g = g ∙ sym (ap (λ r. taken (c .a) (c .b) os r >>= walk-on K) e ∙ goes-nowhere os (refusal (w .at) (w .ledger) number) z)
+
+    -- the derivation is over
+    module _ (h : c .d ≤ w .at .rule) where
+      over-is : walk-on K (at-place os w) ≡ finish K (at-place os w)
+      over-is = walk-over K (at-place os w) (omega (arith, h, rule-count file c))
+
+      abbrev ending : Bool → Bool → Bool → Result ℕ (Unit {0})
+      ending a s o = do
+        _ ← need 17 (a && s)
+        _ ← need 18 o
+        need 19 (Check.all-counted K (at-place os w .ledger))
+
+      finish-is : (a s o : Bool) → leb (length (K .array-program)) (w .at .array) ≡ a → leb (length (K .stream-program)) (w .at .stream) ≡ s → no-block os ≡ o
+          → finish K (at-place os w) ≡ Check.at (at-place os w) (ending a s o)
+      unfolding finish
+      finish-is a s o e f g = λ i. Check.at (at-place os w) (ending (e i) (f i) (g i))
+
+      pub over-array : w .at .array < c .s → r ≡ refusal (w .at) (w .ledger) 17 → Goes file c os w os r
+      unfolding Check.at because need _>>=_
+      over-array l e = refused-goes 17 (λ z. omega (arith, z)) e (over-is ∙ finish-is false (leb (length (K .stream-program)) (w .at .stream)) (no-block os) (lt-leb (length (K .array-program)) (w .at .array) (omega (arith, l, array-count file c))) refl refl)
+
+      pub over-stream : c .s ≤ w .at .array → w .at .stream < c .t → r ≡ refusal (w .at) (w .ledger) 17 → Goes file c os w os r
+      unfolding Check.at because need _>>=_
+      over-stream k l e = refused-goes 17 (λ z. omega (arith, z)) e (over-is ∙ finish-is true false (no-block os) (le-leb (length (K .array-program)) (w .at .array) (omega (arith, k, array-count file c))) (lt-leb (length (K .stream-program)) (w .at .stream) (omega (arith, l, stream-count file c))) refl)
+
+      pub over-block : c .s ≤ w .at .array → c .t ≤ w .at .stream → no-block os ≡ false → r ≡ refusal (w .at) (w .ledger) 18 → Goes file c os w os r
+      unfolding Check.at because need _>>=_
+      over-block k l o e = refused-goes 18 (λ z. omega (arith, z)) e (over-is ∙ finish-is true true false (le-leb (length (K .array-program)) (w .at .array) (omega (arith, k, array-count file c))) (le-leb (length (K .stream-program)) (w .at .stream) (omega (arith, l, stream-count file c))) o)
+
+    -- an else or an end where no block is open
+    none-open : (os : List Opened) → no-block os ≡ true → os ≡ []
+    unfolding no-block
+    none-open [] e = refl
+    none-open (o ∷ os) e = absurd (false≢true e)
+
+    stray-takes : Closing (rule-code file c (w .at)) → Check.take-rule K (at-place [] w) ≡ stop (refused-at (at-place [] w) 10)
+    unfolding Check.take-rule Check.follow Check.effect Check.at-else Check.at-end Check.at because need _>>=_ S.rule S.next-rule
+    stray-takes (inl e) = ap (λ code. Check.at (at-place [] w) (Check.follow K (at-place [] w) (S.rule code) (S.next-array K (at-place [] w)) (S.next-stream K (at-place [] w)))) e ∙ either (Check.fits K (at-place [] w) S.else-rule (S.next-array K (at-place [] w)) (S.next-stream K (at-place [] w)))
+      where
+        either : (t : Bool) → Check.at {A = Place} (at-place [] w) (need 10 t >>= λ u. stop 10) ≡ stop (refused-at (at-place [] w) 10)
+        either true = refl
+        either false = refl
+    stray-takes (inr e) = ap (λ code. Check.at (at-place [] w) (Check.follow K (at-place [] w) (S.rule code) (S.next-array K (at-place [] w)) (S.next-stream K (at-place [] w)))) e ∙ either (Check.fits K (at-place [] w) S.end-rule (S.next-array K (at-place [] w)) (S.next-stream K (at-place [] w)))
+      where
+        either : (t : Bool) → Check.at {A = Place} (at-place [] w) (need 10 t >>= λ u. stop 10) ≡ stop (refused-at (at-place [] w) 10)
+        either true = refl
+        either false = refl
+
+    pub stray : w .at .rule < c .d → Closing (rule-code file c (w .at)) → no-block os ≡ true → r ≡ refusal (w .at) (w .ledger) 10 → Goes file c os w os r
+    unfolding _>>=_
+    stray h k o e = refused-goes 10 (λ z. omega (arith, z)) e
+        (ap (λ os. walk-on K (at-place os w)) (none-open os o)
+        ∙ walk-take K (at-place [] w) (omega (arith, h, rule-count file c))
+        ∙ ap (λ x. x >>= walk-on K) (stray-takes k))
+
+  -- the code's flag says whether a block is open
+  pub rests-over : (inside : Bool) (w : Taken) → inside ≡ false → c .d ≤ w .at .rule → c .s ≤ w .at .array → c .t ≤ w .at .stream → Rests file c inside w
+  unfolding Rests
+  rests-over inside w e h k l = subst (λ inside. Rests file c inside w) (sym e) (h, k, l)
+
+  pub rests-inside : (inside : Bool) (w : Taken) → inside ≡ true → w .at .rule < c .d → Closing (rule-code file c (w .at)) → Rests file c inside w
+  unfolding Rests
+  rests-inside inside w e h k = subst (λ inside. Rests file c inside w) (sym e) (h, k)
+
+  pub comes-inside : (w : Taken) → Rests file c true w → (w .at .rule < c .d) × Closing (rule-code file c (w .at))
+  unfolding Rests
+  comes-inside w h = h
+
+  pub comes-over : (w : Taken) → Rests file c false w → (c .d ≤ w .at .rule) × (c .s ≤ w .at .array) × (c .t ≤ w .at .stream)
+  unfolding Rests
+  comes-over w h = h

@@ -1,3 +1,0 @@
-pub mod Parts
-pub mod Walk
-pub mod Scan

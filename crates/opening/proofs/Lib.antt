@@ -1,4 +1,0 @@
-pub mod Taking
-pub mod Going
-pub mod Limit
-pub mod Entering

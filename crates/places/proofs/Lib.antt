@@ -1,3 +1,0 @@
-pub mod Read
-pub mod Standing
-pub mod Comes

@@ -1,0 +1,185 @@
+-- `read_file::records_fit` meets its contract: each section's test in its turn, of the kernel's own section.
+use mathlib.Core.Path.{_≡_, sym, ap, _∙_}
+use mathlib.Core.List.{List, []}
+use Prim.Native.Nat.{ℕ}
+use native.Mathlib.Omega.{arith}
+use borrow.Author.Needs.{needs}
+use Rattle.kernel.specs.File.{Kernel}
+use Rattle.kernel.specs.Reading.{array-scope, stream-scope, arrays-fit, statements-fit, rules-fit, read-file}
+use Rattle.parts.specs.declared.Part.{Part}
+use Rattle.parts.specs.Parts.{records-in, kernel, Lies}
+use Rattle.parts.proofs.Parts.{arrays-count, arrays-lie, array-lies, stream-lies, derivation-lies, buffers-are}
+use Rattle.read_counts.specs.View.{answer}
+use Rattle.read_file.specs.View.{checked}
+use Rattle.read_file.proofs.Parts.{from-arrays, from-array-program, from-stream-program, from-rules, read-sections, go-arrays, stop-arrays, go-array-program, stop-array-program, go-stream-program, stop-stream-program, go-rules, stop-rules}
+use Rattle.read_file.proofs.records_fit.Statement.{statement}
+use Rattle.read_file.proofs.records_fit.Tie as tie
+
+abbrev file : tie.Start → List ℕ
+file s = s .args .file .now
+
+abbrev K : tie.Start → Kernel
+K s = kernel (file s) (s .args .c)
+
+-- a part that is known to lie there, by another name
+lies : (s : tie.Start) {most : ℕ} {p q : Part} → q ≡ p → Lies most (file s) p → Lies most (file s) q
+lies s e l = rw e l
+
+-- ---- arrays
+
+arrays-part-requires : tie.Need-arrays-part-requires
+arrays-part-requires c κs = search needs
+
+arrays-fit-requires : tie.Need-arrays-fit-requires
+arrays-fit-requires c κs = let s = c .before .before in lies s (c .arrays-part .ensures) (arrays-lie (file s) (s .args .c) (s .pre .2))
+
+arrays-tested : (c : tie.After-arrays-fit) → checked 3 (c .arrays-fit .result) ≡ arrays-fit 0 0 0 (K (c .before .before .before) .arrays)
+unfolding kernel
+arrays-tested c = c .arrays-fit .ensures ∙ ap (λ p. arrays-fit 0 0 0 (records-in (file (c .before .before .before)) p)) (c .before .arrays-part .ensures)
+
+read-from : (s : tie.Start) → read-file (file s) ≡ from-arrays (K s)
+read-from s = read-sections (file s) (K s) (s .pre .0) (s .pre .1)
+
+returns : tie.Need-returns
+unfolding answer
+returns c =
+    let a = c .before .before in
+    let s = a .before .before .before in
+    sym (stop-arrays (K s) (a .arrays-fit .result) (read-from s) (arrays-tested a) (c .if1 .taken))
+
+-- ---- the array program
+
+cast-t16 : tie.Need-cast-t16
+cast-t16 c = search needs
+
+array-part-requires : tie.Need-array-part-requires
+array-part-requires c κs = search needs
+
+statements-fit-requires : tie.Need-statements-fit-requires
+statements-fit-requires c κs =
+    let s = c .before .before .before .before .before .before .before in
+    ((s .pre .2 .few .arrays, omega (arith, s .pre .2 .whole)), lies s (c .array-part .ensures) (array-lies (file s) (s .args .c) (s .pre .2)))
+
+arrays-passed : (c : tie.Else1) → read-file (file (c .before .before .before .before .before)) ≡ from-array-program (K (c .before .before .before .before .before))
+arrays-passed c =
+    let a = c .before .before in
+    let s = a .before .before .before in
+    go-arrays (K s) (a .arrays-fit .result) (read-from s) (arrays-tested a) (c .if1 .left)
+
+array-tested : (c : tie.After-statements-fit)
+    → let s = c .before .before .before .before .before .before .before .before in
+    checked 4 (c .statements-fit .result) ≡ statements-fit (array-scope (K s)) 4 0 [] (K s .array-program)
+unfolding kernel
+array-tested c =
+    let s = c .before .before .before .before .before .before .before .before in
+    c .statements-fit .ensures ∙ ap (λ p. statements-fit (array-scope (K s)) 4 0 [] (records-in (file s) p)) (c .before .array-part .ensures)
+
+returns-2 : tie.Need-returns-2
+unfolding answer
+returns-2 c =
+    let a = c .before .before in
+    let e = a .before .before .before in
+    sym (stop-array-program (K (e .before .before .before .before .before)) (a .statements-fit .result) (arrays-passed e) (array-tested a) (c .if2 .taken))
+
+-- ---- the stream program
+
+add-t17 : tie.Need-add-t17
+add-t17 c = search needs
+
+cast-t16-2 : tie.Need-cast-t16-2
+cast-t16-2 c = search needs
+
+stream-part-requires : tie.Need-stream-part-requires
+stream-part-requires c κs = search needs
+
+statements-fit-requires-2 : tie.Need-statements-fit-requires-2
+statements-fit-requires-2 c κs =
+    let s = c .before .before .before .before .before .before .before .before .before .before .before .before in
+    ((s .pre .2 .few .arrays, omega (arith, s .pre .2 .whole)), lies s (c .stream-part .ensures) (stream-lies (file s) (s .args .c) (s .pre .2)))
+
+array-passed : (c : tie.Else2)
+    → let s = c .before .before .before .before .before .before .before .before .before .before in
+    read-file (file s) ≡ from-stream-program (K s)
+array-passed c =
+    let a = c .before .before in
+    let e = a .before .before .before in
+    go-array-program (K (e .before .before .before .before .before)) (a .statements-fit .result) (arrays-passed e) (array-tested a) (c .if2 .left)
+
+stream-tested : (c : tie.After-statements-fit2)
+    → let s = c .before .before .before .before .before .before .before .before .before .before .before .before .before in
+    checked 5 (c .statements-fit2 .result) ≡ statements-fit (stream-scope (K s)) 5 0 [] (K s .stream-program)
+unfolding kernel
+stream-tested c =
+    let s = c .before .before .before .before .before .before .before .before .before .before .before .before .before in
+    c .statements-fit2 .ensures ∙ ap (λ p. statements-fit (stream-scope (K s)) 5 0 [] (records-in (file s) p)) (c .before .stream-part .ensures)
+
+returns-3 : tie.Need-returns-3
+unfolding answer
+returns-3 c =
+    let a = c .before .before in
+    let e = a .before .before .before in
+    sym (stop-stream-program (K (e .before .before .before .before .before .before .before .before .before .before)) (a .statements-fit2 .result) (array-passed e) (stream-tested a) (c .if3 .taken))
+
+-- ---- the derivation
+
+derivation-part-requires : tie.Need-derivation-part-requires
+derivation-part-requires c κs =
+    let s = c .before .before .before .before .before .before .before .before .before .before .before .before .before .before .before in
+    s .pre .2 .few
+
+rules-fit-requires : tie.Need-rules-fit-requires
+rules-fit-requires c κs =
+    let s = c .before .before .before .before .before .before .before .before .before .before .before .before .before .before .before .before in
+    lies s (c .derivation-part .ensures) (derivation-lies (file s) (s .args .c) (s .pre .2))
+
+stream-passed : (c : tie.Else3)
+    → let s = c .before .before .before .before .before .before .before .before .before .before .before .before .before .before .before in
+    read-file (file s) ≡ from-rules (K s)
+stream-passed c =
+    let a = c .before .before in
+    let e = a .before .before .before in
+    go-stream-program (K (e .before .before .before .before .before .before .before .before .before .before)) (a .statements-fit2 .result) (array-passed e) (stream-tested a) (c .if3 .left)
+
+-- a derivation's test is of every kernel of so many arrays and buffers
+rules-tested : (c : tie.After-rules-fit)
+    → let s = c .before .before .before .before .before .before .before .before .before .before .before .before .before .before .before .before .before in
+    checked 6 (c .rules-fit .result) ≡ rules-fit (K s) 0 (K s .derivation)
+unfolding kernel
+rules-tested c =
+    let s = c .before .before .before .before .before .before .before .before .before .before .before .before .before .before .before .before .before in
+    c .rules-fit .ensures (K s) (arrays-count (file s) (s .args .c)) (buffers-are (file s) (s .args .c)) ∙ ap (λ p. rules-fit (K s) 0 (records-in (file s) p)) (c .before .derivation-part .ensures)
+
+returns-4 : tie.Need-returns-4
+unfolding answer
+returns-4 c =
+    let a = c .before .before in
+    let e = a .before .before in
+    sym (stop-rules (K (e .before .before .before .before .before .before .before .before .before .before .before .before .before .before .before)) (a .rules-fit .result) (stream-passed e) (rules-tested a) (c .if4 .taken))
+
+returns-5 : tie.Need-returns-5
+unfolding answer
+returns-5 c =
+    let a = c .before .before in
+    let e = a .before .before in
+    sym (go-rules (K (e .before .before .before .before .before .before .before .before .before .before .before .before .before .before .before)) (a .rules-fit .result) (stream-passed e) (rules-tested a) (c .if4 .left))
+
+pub records-fit-spec : {M : Type 1} → statement M
+records-fit-spec =
+    tie.close
+    (tie.spec
+    arrays-part-requires
+    arrays-fit-requires
+    returns
+    cast-t16
+    array-part-requires
+    statements-fit-requires
+    returns-2
+    add-t17
+    cast-t16-2
+    stream-part-requires
+    statements-fit-requires-2
+    returns-3
+    derivation-part-requires
+    rules-fit-requires
+    returns-4
+    returns-5)

@@ -1,0 +1,5 @@
+pub mod States
+pub mod Registers
+pub mod Index
+pub mod Cells
+pub mod Statements
