@@ -7,7 +7,7 @@ use Prim.Native.Nat.{ℕ, zero, suc, _≤_}
 use lib.Dec.{eqb}
 use lib.ListN.{length, drop}
 use lib.IntN.{pos}
-use borrow.Author.Tests.{eqb-true, eq-eqb, leb-true, le-leb}
+use borrow.Author.Tests.{eqb-true, eq-eqb, le-leb}
 use Rattle.numbers.specs.Lists.{alike}
 use Rattle.numbers.specs.Words.{between}
 use Rattle.numbers.proofs.Tests.{and-left, and-right, and-true, each-of, between-range, range-between, alike-eq, eq-alike, alike-pairwise, pairwise-alike}
@@ -18,6 +18,7 @@ use Rattle.kernel.specs.Ledger.{Held, held, Ledger, holds-just, same-positions,
 use Rattle.kernel.specs.Derivation.{Place, loops, hold-rows, Rule, same-rule, read-rule, fill-rule, use-rule, move-rule, write-rule, for-rule, if-rule, else-rule, end-rule, no-rule}
 use Rattle.kernel.specs.Check.{codes, same-p, same-pq, same-pqk, identical, is-buffer, something, in-order, rows-fit, fits, all-counted}
 use Rattle.kernel.specs.Rules.{Rows, over, row, Holds, holds, PositionsEqual, RowTrue, says-nothing, says-so, RowsTrue, AllCounted, Line, _unless_then_, gives, never, line}
+use Rattle.kernel.proofs.Fitting.{codes-say, buffer-says}
 
 -- ---- held buffers
 
@@ -110,10 +111,6 @@ says-identical : (a s : Rec) → s ≡ a → identical a s ≡ true
 unfolding identical
 says-identical a s e = eq-alike eqb (λ n. eq-eqb n n refl) (sym (ap numbers e))
 
-codes-say : (c d : ℕ) (a s : Rec) → codes c d a s ≡ true → (a .code ≡ c) × (s .code ≡ d)
-unfolding codes
-codes-say c d a s h = (eqb-true (a .code) c (and-left (eqb (a .code) c) (eqb (s .code) d) h), eqb-true (s .code) d (and-right (eqb (a .code) c) (eqb (s .code) d) h))
-
 say-codes : (c d : ℕ) (a s : Rec) → a .code ≡ c → s .code ≡ d → codes c d a s ≡ true
 unfolding codes
 say-codes c d a s e f = and-true (eq-eqb (a .code) c e) (eq-eqb (s .code) d f)
@@ -143,10 +140,6 @@ pqk-says a s h =
 says-pqk : (a s : Rec) → s .p ≡ a .p → s .q ≡ a .q → s .k ≡ a .k → same-pqk a s ≡ true
 unfolding same-pqk
 says-pqk a s e f g = and-true (says-pq a s e f) (eq-eqb (a .k) (s .k) (sym g))
-
-buffer-says : (K : Kernel) (p : ℕ) → is-buffer K p ≡ true → K .registers ≤ p
-unfolding is-buffer
-buffer-says K p h = leb-true (K .registers) p h
 
 says-buffer : (K : Kernel) (p : ℕ) → K .registers ≤ p → is-buffer K p ≡ true
 unfolding is-buffer

@@ -66,6 +66,10 @@ each-back g (some (held r f₀)) q f e =
     let same-form : g f₀ ≡ f = cc in
     (f₀, ap (λ r. some (held r f₀)) same-array, sym same-form)
 
+each-one : (g : Form → Form) (q : ℕ) (f : Form) → each-held g (some (held q f)) ≡ some (held q (g f))
+unfolding each-held
+each-one g q f = refl
+
 each-holding : (g : Form → Form) (L : Ledger) (b : ℕ) → holding b (each g L) ≡ each-held g (holding b L)
 unfolding holding each each-held
 each-holding g L b = List·getD-map (each-held g) (L .buffers) b none
@@ -101,9 +105,6 @@ module _ (K : Kernel) (rows : Ledger) (positions : length (rows .positions) ≡ 
         let (f₀, e₀, z) = each-back h (holding b rows) q f (sym (each-holding h rows b) ∙ e) in
         (g f₀, each-holding g rows b ∙ ap (each-held g) e₀ ∙ each-one g q f₀, ap (λ f. value f ds) z ∙ v f₀);
   }
-    where
-      each-one : (g : Form → Form) (q : ℕ) (f : Form) → each-held g (some (held q f)) ≡ some (held q (g f))
-      each-one g q f = unfold each-held in refl
 
   -- nothing changed
   pub plain-values : (g : Form → Form) (cs ds : List ℤ) → ((f : Form) → value f ds ≡ value (g f) cs) → SameValues K (each g rows) cs rows ds
@@ -113,9 +114,6 @@ module _ (K : Kernel) (rows : Ledger) (positions : length (rows .positions) ≡ 
     position-values = λ q l. v (position q rows) ∙ ap (λ f. value f cs) (sym (each-position g rows q (omega (arith, positions))));
     held-values = λ b q f e. (g f, each-holding g rows b ∙ ap (each-held g) e ∙ each-one g q f, v f);
   }
-    where
-      each-one : (g : Form → Form) (q : ℕ) (f : Form) → each-held g (some (held q f)) ≡ some (held q (g f))
-      each-one g q f = unfold each-held in refl
 
 -- ---- the end of an if
 

@@ -22,7 +22,21 @@ use Rattle.check_ledger.specs.declared.Ledger.{Ledger}
 use Rattle.check_ledger.specs.View.{numbered, held, ledger, zero-form, nothing, Bounded}
 use Rattle.check_ledger.proofs.Bounds.{within-wider}
 use Rattle.check_ledger.proofs.Steps.{position-right, holding-right}
-use Rattle.check_rules.specs.View.{PlainRule, Named, stream-of, buffer-of, room-left, next-item, asked, asked-there, answered, stepped, arrays-taken}
+use Rattle.check_rules.specs.View.{Named, stream-of, buffer-of, room-left, next-item, asked, asked-there, answered, stepped, arrays-taken}
+
+-- the rules at which no block opens or closes
+abbrev pub PlainRule : Rule → Type 0
+PlainRule same-rule = Unit
+PlainRule read-rule = Unit
+PlainRule fill-rule = Unit
+PlainRule use-rule = Unit
+PlainRule move-rule = Unit
+PlainRule write-rule = Unit
+PlainRule for-rule = ⊥
+PlainRule if-rule = ⊥
+PlainRule else-rule = ⊥
+PlainRule end-rule = ⊥
+PlainRule no-rule = Unit
 
 -- ---- needs and answers
 

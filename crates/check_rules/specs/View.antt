@@ -23,20 +23,6 @@ use Rattle.check_ledger.specs.View.{ledger, Bounded}
 abbrev pub ForFits : (file : List ℕ) → Counts → (rule level : ℕ) → (a s : Rec) → Bool → Type 0
 ForFits file c rule level a s t = (d : Place) → d .rule ≡ rule → length (loops (d .opened)) ≡ level → t ≡ fits (kernel file c) d for-rule a s
 
--- the rules at which no block opens or closes
-abbrev pub PlainRule : Rule → Type 0
-PlainRule same-rule = Unit
-PlainRule read-rule = Unit
-PlainRule fill-rule = Unit
-PlainRule use-rule = Unit
-PlainRule move-rule = Unit
-PlainRule write-rule = Unit
-PlainRule for-rule = ⊥
-PlainRule if-rule = ⊥
-PlainRule else-rule = ⊥
-PlainRule end-rule = ⊥
-PlainRule no-rule = Unit
-
 -- the arrays and buffers that the next statements name are there, where one of rules 1 to 6 fits them
 abbrev pub Named : Counts → Rule → (a s : Rec) → Type 0
 Named c same-rule a s = Unit

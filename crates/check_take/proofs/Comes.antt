@@ -12,8 +12,8 @@ use Rattle.parts.specs.declared.Counts.{Counts}
 use Rattle.parts.proofs.Parts.{K}
 use Rattle.check_ledger.specs.declared.Ledger.{Ledger}
 use Rattle.check_ledger.specs.View.{ledger}
-use Rattle.check_rules.specs.View.{PlainRule, asked-there, answered, stepped, arrays-taken}
-use Rattle.check_rules.proofs.Effects.{need-fails, need-holds, answers-stop, answers-on, effect-is}
+use Rattle.check_rules.specs.View.{asked-there, answered, stepped, arrays-taken}
+use Rattle.check_rules.proofs.Effects.{PlainRule, need-fails, need-holds, answers-stop, answers-on, effect-is}
 use Rattle.check_take.specs.declared.Place.{Place}
 use Rattle.check_take.specs.View.{place, rule-code, array-there, stream-there, fits-there}
 

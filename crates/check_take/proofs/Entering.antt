@@ -21,6 +21,7 @@ use Rattle.kernel.specs.Derivation.{Opened, went, rule}
 use Rattle.kernel.specs.Check as Check
 use Rattle.kernel.specs.Guarantees.{FormSmall, LoopFits, StatementFits, RuleFits}
 use Rattle.kernel.proofs.Readable.{all-at}
+use Rattle.kernel.proofs.Fitting.{codes-say}
 use Rattle.kernel.proofs.Fronts.{read-for}
 use Rattle.kernel.proofs.Sayings.{says-for, fits-at, there-at}
 use Rattle.parts.specs.declared.Counts.{Counts}
@@ -36,7 +37,7 @@ use Rattle.check_take.specs.declared.Taken.{Taken}
 use Rattle.check_take.specs.View.{taken, Stood, Onward, array-there, stream-there, loop-there, TakesRule, ReadsOn, Enters}
 use Rattle.parts.proofs.Parts.{reads, arrays-count, buffers-are, rule-count, derivation-is}
 use Rattle.check_take.proofs.Comes.{here, Fitting, Effect, Comes}
-use Rattle.check_take.proofs.Going.{one-further, code-of}
+use Rattle.check_take.proofs.Going.{one-further}
 
 -- ---- the loops around
 
@@ -152,7 +153,7 @@ module _ (file : List ℕ) (c : Counts) (at : Place) (l : Ledger) where
     module _ (h : Fitting file c os at l 7 ≡ true) where
       for-code : a .code ≡ fors
       unfolding Check.fits rule
-      for-code = code-of 8 8 a s (and-left _ (Check.same-pqk a s) (and-left _ (Check.rows-fit K (suc (length (Derivation.loops os))) (Derivation.hold-rows K (here file c os at l))) h))
+      for-code = codes-say 8 8 a s (and-left _ (Check.same-pqk a s) (and-left _ (Check.rows-fit K (suc (length (Derivation.loops os))) (Derivation.hold-rows K (here file c os at l))) h)) .0
 
       pub rows-there : at .rule < c .d → at .rule + 1 + c .a + c .b ≤ c .d
       unfolding Check.fits rule

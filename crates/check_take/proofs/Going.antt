@@ -4,9 +4,7 @@ use mathlib.Core.Path.{_≡_, sym, subst}
 use mathlib.Core.Bool.{true, false≢true}
 use mathlib.Core.List.{List, _∷_}
 use native.Mathlib.Omega.{arith}
-use lib.Dec.{eqb}
 use lib.ListN.{getD, drop}
-use borrow.Author.Tests.{eqb-true}
 use Rattle.numbers.proofs.Tests.{and-left}
 use Rattle.kernel.specs.File.{Rec, nothing, ifs, elses, ends}
 use Rattle.kernel.specs.Reading.{Scope, array-scope, Open, open-for, open-if, open-else}
@@ -14,13 +12,15 @@ use Rattle.kernel.specs.Derivation as Derivation
 use Rattle.kernel.specs.Derivation.{Rule, same-rule, read-rule, fill-rule, use-rule, move-rule, write-rule, for-rule, if-rule, else-rule, end-rule, no-rule}
 use Rattle.kernel.specs.Check as Check
 use Rattle.kernel.specs.Guarantees.{Nested}
+use Rattle.kernel.proofs.Fitting.{codes-say}
 use Rattle.kernel.proofs.Fronts.{read-plain, read-if, read-else, read-end-for, read-end-if, plain-said}
 use Rattle.kernel.proofs.Sayings.{says-if, says-else, says-end, there-at}
 use Rattle.parts.specs.declared.Counts.{Counts}
 use Rattle.parts.specs.Parts.{kernel}
 use Rattle.check_ledger.specs.declared.Ledger.{Ledger}
 use Rattle.check_ledger.specs.View.{Bounded}
-use Rattle.check_rules.specs.View.{PlainRule, arrays-taken}
+use Rattle.check_rules.specs.View.{arrays-taken}
+use Rattle.check_rules.proofs.Effects.{PlainRule}
 use Rattle.check_take.specs.declared.Place.{Place}
 use Rattle.check_take.specs.declared.Taken.{Taken}
 use Rattle.check_take.specs.View.{past, Stood, Onward, ReadsOn, array-there, stream-there}
@@ -98,10 +98,6 @@ module _ (file : List ℕ) (c : Counts) (at : Place) (opens : List Open) (n : Re
   rule-reads no-rule l h = absurd (false≢true h)
 
 -- after a rule that opens or closes a block: the code of its statement, where it fits
-pub code-of : (m n : ℕ) (a s : Rec) → Check.codes m n a s ≡ true → a .code ≡ m
-unfolding Check.codes
-code-of m n a s h = eqb-true (a .code) m (and-left _ (eqb (s .code) n) h)
-
 module _ (file : List ℕ) (c : Counts) (os : List Derivation.Opened) (at : Place) (l : Ledger) where
   abbrev a : Rec
   a = array-there file c at
@@ -111,15 +107,15 @@ module _ (file : List ℕ) (c : Counts) (os : List Derivation.Opened) (at : Plac
 
   if-code : Fitting file c os at l 8 ≡ true → a .code ≡ ifs
   unfolding Check.fits Derivation.rule
-  if-code h = code-of 9 9 a s (and-left _ (Check.same-p a s) h)
+  if-code h = codes-say 9 9 a s (and-left _ (Check.same-p a s) h) .0
 
   else-code : Fitting file c os at l 9 ≡ true → a .code ≡ elses
   unfolding Check.fits Derivation.rule
-  else-code h = code-of 10 10 a s h
+  else-code h = codes-say 10 10 a s h .0
 
   end-code : Fitting file c os at l 10 ≡ true → a .code ≡ ends
   unfolding Check.fits Derivation.rule
-  end-code h = code-of 11 11 a s h
+  end-code h = codes-say 11 11 a s h .0
 
   abbrev scope : Scope
   scope = array-scope (kernel file c)

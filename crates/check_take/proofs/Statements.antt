@@ -7,7 +7,7 @@ use mathlib.Core.List.{List, [], _∷_}
 use native.Mathlib.Omega.{arith}
 use lib.Dec.{eqb}
 use lib.ListN.{length, getD}
-use borrow.Author.Tests.{eqb-true, leb-true}
+use borrow.Author.Tests.{eqb-true}
 use Rattle.numbers.specs.Words.{between}
 use Rattle.numbers.proofs.Tests.{and-left, and-right, each-of, between-range}
 use Rattle.kernel.specs.File.{Rec, nothing, Kernel, sets, copies, works, loads, stores, reads, writes, Statement, statement}
@@ -16,6 +16,7 @@ use Rattle.kernel.specs.Derivation as Derivation
 use Rattle.kernel.specs.Derivation.{Rule, same-rule, read-rule, fill-rule, use-rule, move-rule, write-rule, for-rule, if-rule, else-rule, end-rule, no-rule, rule}
 use Rattle.kernel.specs.Check.{codes, same-p, same-pq, identical, is-buffer, fits}
 use Rattle.kernel.specs.Guarantees.{StatementFits, Nested}
+use Rattle.kernel.proofs.Fitting.{codes-say, buffer-says}
 use Rattle.kernel.proofs.Sayings.{says-copy, says-load, says-store, says-read, fits-at, there-at}
 use Rattle.parts.specs.declared.Counts.{Counts}
 use Rattle.parts.specs.declared.Rec as Code
@@ -23,8 +24,8 @@ use Rattle.parts.specs.Records.{rec}
 use Rattle.parts.specs.Parts.{ReadAs}
 use Rattle.parts.proofs.Parts as Parts
 use Rattle.parts.proofs.Parts.{K, arrays-count, registers-are, buffers-are}
-use Rattle.check_rules.specs.View.{PlainRule, Named}
-use Rattle.check_rules.proofs.Effects.{by-code}
+use Rattle.check_rules.specs.View.{Named}
+use Rattle.check_rules.proofs.Effects.{PlainRule, by-code}
 use Rattle.check_take.specs.declared.Place.{Place}
 use Rattle.check_take.specs.View.{array-there, stream-there, Next, Plain}
 
@@ -64,17 +65,8 @@ pub not-for : (n : ℕ) → Plain n → n ≡ 7 → ⊥
 not-for n (inl h) e = omega (arith, h, e)
 not-for n (inr h) e = omega (arith, h, e)
 
--- ---- what a rule that fits says of the statements
+-- ---- what a rule that fits says of the statements: the arrays and buffers that they name are there
 
-codes-say : (c d : ℕ) (a s : Rec) → codes c d a s ≡ true → (a .code ≡ c) × (s .code ≡ d)
-unfolding codes
-codes-say c d a s h = (eqb-true (a .code) c (and-left (eqb (a .code) c) (eqb (s .code) d) h), eqb-true (s .code) d (and-right (eqb (a .code) c) (eqb (s .code) d) h))
-
-buffer-says : (K : Kernel) (p : ℕ) → is-buffer K p ≡ true → K .registers ≤ p
-unfolding is-buffer
-buffer-says K p h = leb-true (K .registers) p h
-
--- the arrays and buffers that they name are there
 module _ (file : List ℕ) (c : Counts) (e : ReadAs file c) (at : Place) (d : Derivation.Place) where
   abbrev a : Rec
   a = array-there file c at

@@ -103,18 +103,15 @@ module _ (file : List ℕ) (c : Counts) where
     none-open [] e = refl
     none-open (o ∷ os) e = absurd (false≢true e)
 
+    stray-either : (t : Bool) → Check.at {A = Place} (at-place [] w) (need 10 t >>= λ u. stop 10) ≡ stop (refused-at (at-place [] w) 10)
+    unfolding Check.at because need _>>=_
+    stray-either true = refl
+    stray-either false = refl
+
     stray-takes : Closing (rule-code file c (w .at)) → Check.take-rule K (at-place [] w) ≡ stop (refused-at (at-place [] w) 10)
     unfolding Check.take-rule Check.follow Check.effect Check.at-else Check.at-end Check.at because need _>>=_ S.rule S.next-rule
-    stray-takes (inl e) = ap (λ code. Check.at (at-place [] w) (Check.follow K (at-place [] w) (S.rule code) (S.next-array K (at-place [] w)) (S.next-stream K (at-place [] w)))) e ∙ either (Check.fits K (at-place [] w) S.else-rule (S.next-array K (at-place [] w)) (S.next-stream K (at-place [] w)))
-      where
-        either : (t : Bool) → Check.at {A = Place} (at-place [] w) (need 10 t >>= λ u. stop 10) ≡ stop (refused-at (at-place [] w) 10)
-        either true = refl
-        either false = refl
-    stray-takes (inr e) = ap (λ code. Check.at (at-place [] w) (Check.follow K (at-place [] w) (S.rule code) (S.next-array K (at-place [] w)) (S.next-stream K (at-place [] w)))) e ∙ either (Check.fits K (at-place [] w) S.end-rule (S.next-array K (at-place [] w)) (S.next-stream K (at-place [] w)))
-      where
-        either : (t : Bool) → Check.at {A = Place} (at-place [] w) (need 10 t >>= λ u. stop 10) ≡ stop (refused-at (at-place [] w) 10)
-        either true = refl
-        either false = refl
+    stray-takes (inl e) = ap (λ code. Check.at (at-place [] w) (Check.follow K (at-place [] w) (S.rule code) (S.next-array K (at-place [] w)) (S.next-stream K (at-place [] w)))) e ∙ stray-either (Check.fits K (at-place [] w) S.else-rule (S.next-array K (at-place [] w)) (S.next-stream K (at-place [] w)))
+    stray-takes (inr e) = ap (λ code. Check.at (at-place [] w) (Check.follow K (at-place [] w) (S.rule code) (S.next-array K (at-place [] w)) (S.next-stream K (at-place [] w)))) e ∙ stray-either (Check.fits K (at-place [] w) S.end-rule (S.next-array K (at-place [] w)) (S.next-stream K (at-place [] w)))
 
     pub stray : w .at .rule < c .d → Closing (rule-code file c (w .at)) → no-block os ≡ true → r ≡ refusal (w .at) (w .ledger) 10 → Goes file c os w os r
     unfolding _>>=_

@@ -8,4 +8,5 @@ pub mod Sayings
 pub mod Orders
 pub mod Fronts
 pub mod Trees
+pub mod Fitting
 pub mod Walking

@@ -8,7 +8,7 @@ use native.Mathlib.Omega.{arith}
 use native.Mathlib.Nat.{div-div-eq-div-mul}
 use native.Mathlib.Decide.{decLt}
 use native.Mathlib.Numerals.{towards-suc}
-use lib.ListN.{length, getD, set, replicate, length-append, length-set, List·getD-eq-default}
+use lib.ListN.{length, getD, set, replicate, length-append, List·getD-eq-default}
 use lib.Seq.{set-out}
 use borrow.Author.Tests.{lt-ltb, le-ltb}
 use Rattle.numbers.specs.Words.{words, bytes}
@@ -101,13 +101,6 @@ words-put m i w h = by (decLt i (length m / 4))
     by : Dec (i < length m / 4) → words (put-word m i w) ≡ set (words m) i w
     by (yes l) = ap words (put-there m i w l) ∙ words-set m i w h
     by (no n) = ap words (put-past m i w (omega arith)) ∙ sym (set-out (words m) i w (omega (arith, words-length m)))
-
-pub put-length : (m : List ℕ) (i w : ℕ) → length (put-word m i w) ≡ length m
-put-length m i w = by (decLt i (length m / 4))
-  where
-    by : Dec (i < length m / 4) → length (put-word m i w) ≡ length m
-    by (yes l) = ap length (put-there m i w l) ∙ simp length-set
-    by (no n) = ap length (put-past m i w (omega arith))
 
 -- ---- bytes and words, one to one
 

@@ -1,6 +1,6 @@
 -- The order of ℤ, through naturals: every integer is `up z` less `down z`, two naturals of which one is 0, so that an order of
 -- integers is one of naturals, which omega reads.
-use mathlib.Core.Path.{_≡_, refl, ap, subst, sym}
+use mathlib.Core.Path.{_≡_, refl, subst, sym}
 use mathlib.Core.Bool.{Bool, true, false, not, cond}
 use mathlib.Core.Logic.{_⊎_, inl, inr}
 use Prim.Native.Nat.{ℕ, zero, suc, _+_, _*_, _-_, _<_, _≤_}
@@ -26,7 +26,7 @@ pub abs-parts : (z : ℤ) → natAbs z ≡ up z + down z
 abs-parts (pos n) = omega arith
 abs-parts (negsuc n) = omega arith
 
--- ---- parts of a sum, a negation, a difference
+-- ---- parts of a sum
 
 sub-parts : (a b : ℕ) → up (subℕ a b) + b ≡ a + down (subℕ a b)
 sub-parts a b = by (ltb a b) (λ t. lt (ltb→lt a b t)) (λ t. ge (nltb→le a b t))
@@ -47,23 +47,7 @@ add-parts (pos a) (negsuc b) = omega (arith, sub-parts a (suc b))
 add-parts (negsuc a) (pos b) = omega (arith, sub-parts b (suc a))
 add-parts (negsuc a) (negsuc b) = omega arith
 
-pub neg-up : (z : ℤ) → up (negℤ z) ≡ down z
-neg-up (pos zero) = refl
-neg-up (pos (suc n)) = refl
-neg-up (negsuc n) = refl
-
-pub neg-down : (z : ℤ) → down (negℤ z) ≡ up z
-neg-down (pos zero) = refl
-neg-down (pos (suc n)) = refl
-neg-down (negsuc n) = refl
-
--- ---- an equation and an order, as ones of naturals
-
-pub parts-eq : (a b : ℤ) → up a + down b ≡ up b + down a → a ≡ b
-parts-eq (pos a) (pos b) h = ap pos (omega arith)
-parts-eq (pos a) (negsuc b) h = absurd (omega arith)
-parts-eq (negsuc a) (pos b) h = absurd (omega arith)
-parts-eq (negsuc a) (negsuc b) h = ap negsuc (omega arith)
+-- ---- an order, as one of naturals
 
 pub le-parts : {a b : ℤ} → a ≤ℤ b → up a + down b ≤ up b + down a
 le-parts {a = pos a} {b = pos b} h = let k : a ≤ b = leb→le a b (h .le) in omega arith

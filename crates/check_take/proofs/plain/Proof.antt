@@ -12,7 +12,8 @@ use Rattle.kernel.specs.Check as Check
 use Rattle.parts.specs.Records.{rec}
 use Rattle.parts.proofs.Parts.{K, few, registers-are}
 use Rattle.check_ledger.specs.View.{ledger}
-use Rattle.check_rules.specs.View.{PlainRule, Named, asked-there, answered, stepped, arrays-taken}
+use Rattle.check_rules.specs.View.{Named, asked-there, answered, stepped, arrays-taken}
+use Rattle.check_rules.proofs.Effects.{PlainRule}
 use Rattle.check_rules.proofs.Fitting.{refused, passed}
 use Rattle.check_take.specs.declared.Taken.{Taken}
 use Rattle.check_take.specs.View.{place, past, array-there, stream-there, fits-there, ReadsOn}
