@@ -191,12 +191,12 @@ module _ (side : ℕ) where
       none-before j = omega arith
   cell-at b (a ∷ rs) (suc q) j h g =
       ap (λ k. getD (listed (λ n. b + natAbs (index a n)) 0 (only side count-of a) ++ cells side (b + only side length-of a) rs) k 0)
-      (behind (only side count-of a) (before-in side count-of rs q) j (length (listed (λ n. b + natAbs (index a n)) 0 (only side count-of a))) (listed-length (λ n. b + natAbs (index a n)) 0 (only side count-of a)))
+      (regrouped (only side count-of a) (before-in side count-of rs q) j (length (listed (λ n. b + natAbs (index a n)) 0 (only side count-of a))) (listed-length (λ n. b + natAbs (index a n)) 0 (only side count-of a)))
       ∙ getD-append-add (listed (λ n. b + natAbs (index a n)) 0 (only side count-of a)) (cells side (b + only side length-of a) rs) (before-in side count-of rs q + j) 0
       ∙ cell-at (b + only side length-of a) rs q j (omega arith) g ∙ omega arith
     where
-      behind : (n m j k : ℕ) → k ≡ n → (n + m) + j ≡ k + (m + j)
-      behind n m j k e = omega arith
+      regrouped : (n m j k : ℕ) → k ≡ n → (n + m) + j ≡ k + (m + j)
+      regrouped n m j k e = omega arith
 
 -- ---- the two runs' memories
 

@@ -113,7 +113,7 @@ module _ {K : Kernel} {e : Layout} {cs : List ℤ} (few : K .registers + K .buff
     where
       kept : (d r : ℕ) (g : Form) → getD (set (L .buffers) b (some (held q f))) d none ≡ some (held r g) → Dec (b ≡ d) → Holding e cs r g (getD (set (y .registers) (K .registers + b) (some w)) (K .registers + d) (some 0))
       kept d r g k (yes z) =
-          let told : some (held q f) ≡ some (held r g) = sym (set-same (L .buffers) b (some (held q f)) none (K .buffers) (s .sized .buffers) l) ∙ ap (λ d. getD (set (L .buffers) b (some (held q f))) d none) z ∙ k in
+          let both : some (held q f) ≡ some (held r g) = sym (set-same (L .buffers) b (some (held q f)) none (K .buffers) (s .sized .buffers) l) ∙ ap (λ d. getD (set (L .buffers) b (some (held q f))) d none) z ∙ k in
           let same-array : q ≡ r = cc in
           let same-form : f ≡ g = cc in
           let now : some w ≡ getD (set (y .registers) (K .registers + b) (some w)) (K .registers + d) (some 0) =

@@ -353,15 +353,15 @@ module _ {K : Kernel} {e e₂ : Layout} (tied : Tied K e e₂) (reads : Reads K)
           (sim-turn (rows-values K rows (long .positions) (long .buffers) (put-at (level c) (l .first)) (c .ledger) (a .values) (one-value-here ch) entry) sim)
 
   -- the place after a block: its place, what is open there and its ledger
-  record Behind (w d : Place) (i j : ℕ) (os : List Opened) (L : Ledger) : Type 0 where
+  record AfterBlock (w d : Place) (i j : ℕ) (os : List Opened) (L : Ledger) : Type 0 where
     array-at : d .array ≡ suc i
     stream-at : d .stream ≡ suc j
     opened : d .opened ≡ os
     ledger : d .ledger ≡ L
 
-  behind : (w d : Place) (os : List Opened) (L : Ledger) {i j : ℕ} → d ≡ went 1 1 1 os L w → w .array ≡ i → w .stream ≡ j → Behind w d i j os L
+  after-block : (w d : Place) (os : List Opened) (L : Ledger) {i j : ℕ} → d ≡ went 1 1 1 os L w → w .array ≡ i → w .stream ≡ j → AfterBlock w d i j os L
   unfolding went
-  behind w d os L z p q = record {
+  after-block w d os L z p q = record {
     array-at = ap (λ d. d .array) z ∙ ap (λ n. n + 1) p ∙ add-one _;
     stream-at = ap (λ d. d .stream) z ∙ ap (λ n. n + 1) q ∙ add-one _;
     opened = ap (λ d. d .opened) z;
@@ -369,10 +369,10 @@ module _ {K : Kernel} {e e₂ : Layout} (tied : Tied K e e₂) (reads : Reads K)
   }
 
   -- the blocks after a closing rule
-  blocks-behind : {w d : Place} {i j i′ j′ : ℕ} {os : List Opened} {L : Ledger} {t u : Block} (bo so : List Open) → Behind w d i′ j′ os L
+  blocks-after : {w d : Place} {i j i′ j′ : ℕ} {os : List Opened} {L : Ledger} {t u : Block} (bo so : List Open) → AfterBlock w d i′ j′ os L
       → ReadBlock (array-scope K) (K .array-program) t bo (suc i′) i → ReadBlock (stream-scope K) (K .stream-program) u so (suc j′) j
       → open-loops bo ≡ length (loops os) → Long K L → Blocks d t u i j
-  blocks-behind {i} {j} {t} {u} bo so h a s levels long = record {
+  blocks-after {i} {j} {t} {u} bo so h a s levels long = record {
     array-open = bo;
     stream-open = so;
     array-block = subst (λ m. ReadBlock (array-scope K) (K .array-program) t bo m i) (sym (h .array-at)) a;
@@ -382,13 +382,13 @@ module _ {K : Kernel} {e e₂ : Layout} (tied : Tied K e e₂) (reads : Reads K)
   }
 
   -- from a body that is done to what comes after the loop
-  behind-loop : {n : ℕ} {c z : Place} {t u : Block} {i j : ℕ} (l : Loop) (rows : Ledger) → Finished K z → (b : Blocks c t u i j) → Fewer n z
+  after-loop : {n : ℕ} {c z : Place} {t u : Block} {i j : ℕ} (l : Loop) (rows : Ledger) → Finished K z → (b : Blocks c t u i j) → Fewer n z
       → Long K rows → length (loops (c .opened)) < 4 → RowsTrue (loops (c .opened)) (each (put-at (level c) (l .first)) rows) (c .ledger)
       → (A : LoopFront (array-scope K) (K .array-program) (b .array-open) (c .array) i l t) (S : LoopFront (stream-scope K) (K .stream-program) (b .stream-open) (c .stream) j l u)
       → {c′ : Place} → c′ .opened ≡ Opened.in-for l rows ∷ c .opened → c′ .ledger ≡ rows
       → (inner : Closed n c′ z (A .body) (S .body) (A .end-at) (S .end-at))
       → Closed (suc n) c z t u i j
-  behind-loop {n} {c} {z} {t} {u} {i} {j} l rows fin b rec long low entry A S in-opened in-ledger inner = go (first-step (inner .path) fin (inner .opened-is ∙ in-opened))
+  after-loop {n} {c} {z} {t} {u} {i} {j} l rows fin b rec long low entry A S in-opened in-ledger inner = go (first-step (inner .path) fin (inner .opened-is ∙ in-opened))
     where
       w : Place
       w = inner .place
@@ -397,9 +397,9 @@ module _ {K : Kernel} {e e₂ : Layout} (tied : Tied K e e₂) (reads : Reads K)
       ends = ap (said (K .array-program)) (inner .array-at) ∙ A .ends
 
       finish : {m : ℕ} {d : Place} → inner .left ≡ suc m → Path K m d z
-          → RowsTrue (loops (Opened.in-for l rows ∷ c .opened)) (each (moved-by (level c) (l .step)) rows) (inner .place .ledger) → Behind (inner .place) d (A .end-at) (S .end-at) (c .opened) (each (put-at (level c) (limit l)) rows)
+          → RowsTrue (loops (Opened.in-for l rows ∷ c .opened)) (each (moved-by (level c) (l .step)) rows) (inner .place .ledger) → AfterBlock (inner .place) d (A .end-at) (S .end-at) (c .opened) (each (put-at (level c) (limit l)) rows)
           → Closed (suc n) c z t u i j
-      finish {m} {d} count more kept h = joined (rec m d (omega (arith, inner .fewer, count)) more (A .rest) (S .rest) i j (blocks-behind (b .array-open) (b .stream-open) h (A .more) (S .more) (b .levels) (long-each (put-at (level c) (limit l)) long)))
+      finish {m} {d} count more kept h = joined (rec m d (omega (arith, inner .fewer, count)) more (A .rest) (S .rest) i j (blocks-after (b .array-open) (b .stream-open) h (A .more) (S .more) (b .levels) (long-each (put-at (level c) (limit l)) long)))
         where
           joined : Closed m d z (A .rest) (S .rest) i j → Closed (suc n) c z t u i j
           joined after = record {
@@ -417,7 +417,7 @@ module _ {K : Kernel} {e e₂ : Layout} (tied : Tied K e e₂) (reads : Reads K)
       go : (m : ℕ) × (d : Place) × (inner .left ≡ suc m) × Step K (inner .place) d × Path K m d z → Closed (suc n) c z t u i j
       go (m, d, count, st, more) =
           let (kept, d-is) = closes-for st ends (ap (said (K .stream-program)) (inner .stream-at) ∙ S .ends) (inner .opened-is ∙ in-opened) in
-          finish count more kept (behind (inner .place) d (c .opened) (each (put-at (level c) (limit l)) rows) d-is (inner .array-at) (inner .stream-at))
+          finish count more kept (after-block (inner .place) d (c .opened) (each (put-at (level c) (limit l)) rows) d-is (inner .array-at) (inner .stream-at))
 
   closed-loop : {n : ℕ} {c z : Place} {t u : Block} {i j : ℕ} (a s : Rec) → said (K .array-program) (c .array) ≡ statement a → said (K .stream-program) (c .stream) ≡ statement s
       → a .code ≡ fors → s .code ≡ fors → s .p ≡ a .p → s .q ≡ a .q → s .k ≡ a .k → HoldRows K (suc (level c)) (hold-rows K c)
@@ -433,7 +433,7 @@ module _ {K : Kernel} {e e₂ : Layout} (tied : Tied K e e₂) (reads : Reads K)
       long = long-rows (suc (level c)) c hold
 
       go : LoopFront (array-scope K) (K .array-program) (b .array-open) (c .array) i (loop-of a) t → LoopFront (stream-scope K) (K .stream-program) (b .stream-open) (c .stream) j (loop-of a) u → Closed (suc n) c z t u i j
-      go A S = behind-loop (loop-of a) (rows-here K c) fin b rec long (omega (arith, A .room .loops, b .levels)) entry A S refl refl
+      go A S = after-loop (loop-of a) (rows-here K c) fin b rec long (omega (arith, A .room .loops, b .levels)) entry A S refl refl
           (rec n _ (omega arith) path (A .body) (S .body) (A .end-at) (S .end-at) (record {
             array-open = open-for (loop-of a .passes) ∷ b .array-open;
             stream-open = open-for (loop-of a .passes) ∷ b .stream-open;
@@ -479,20 +479,20 @@ module _ {K : Kernel} {e e₂ : Layout} (tied : Tied K e e₂) (reads : Reads K)
       }
 
   -- from a second branch that is done to what comes after the if
-  behind-branch : {n m : ℕ} {c z d : Place} {t u : Block} {i j p : ℕ} → Finished K z → (b : Blocks c t u i j) → Fewer n z
+  after-branch : {n m : ℕ} {c z d : Place} {t u : Block} {i j p : ℕ} → Finished K z → (b : Blocks c t u i j) → Fewer n z
       → (A : BranchFront (array-scope K) (K .array-program) (b .array-open) (c .array) i p t) (S : BranchFront (stream-scope K) (K .stream-program) (b .stream-open) (c .stream) j p u)
       → {c′ : Place} → loops (c′ .opened) ≡ loops (c .opened) → c′ .ledger ≡ c .ledger → (first : Closed n c′ z (A .first) (S .first) (A .else-at) (S .else-at))
       → loops (d .opened) ≡ loops (c .opened) → d .ledger ≡ c .ledger → (second : Closed m d z (A .second) (S .second) (A .end-at) (S .end-at)) → m < n
       → d .opened ≡ Opened.in-else (first .place .ledger) ∷ c .opened
       → Closed (suc n) c z t u i j
-  behind-branch {n} {m} {c} {z} {d} {t} {u} {i} {j} {p} fin b rec A S loops₁ ledger₁ first loops₂ ledger₂ second fewer opened-is = go (first-step (second .path) fin (second .opened-is ∙ opened-is))
+  after-branch {n} {m} {c} {z} {d} {t} {u} {i} {j} {p} fin b rec A S loops₁ ledger₁ first loops₂ ledger₂ second fewer opened-is = go (first-step (second .path) fin (second .opened-is ∙ opened-is))
     where
       ends : said (K .array-program) (second .place .array) ≡ end
       ends = ap (said (K .array-program)) (second .array-at) ∙ A .ends
 
       finish : {k : ℕ} {d₂ : Place} → second .left ≡ suc k → Path K k d₂ z → PositionsEqual (loops (c .opened)) (first .place .ledger) (second .place .ledger)
-          → Behind (second .place) d₂ (A .end-at) (S .end-at) (c .opened) (merged (loops (c .opened)) (first .place .ledger) (second .place .ledger)) → Closed (suc n) c z t u i j
-      finish {k} {d₂} count more positions h = joined (rec k d₂ (omega (arith, second .fewer, count)) more (A .rest) (S .rest) i j (blocks-behind (b .array-open) (b .stream-open) h (A .more) (S .more) (b .levels) (long-merged (loops (c .opened)) (first .long) (second .long))))
+          → AfterBlock (second .place) d₂ (A .end-at) (S .end-at) (c .opened) (merged (loops (c .opened)) (first .place .ledger) (second .place .ledger)) → Closed (suc n) c z t u i j
+      finish {k} {d₂} count more positions h = joined (rec k d₂ (omega (arith, second .fewer, count)) more (A .rest) (S .rest) i j (blocks-after (b .array-open) (b .stream-open) h (A .more) (S .more) (b .levels) (long-merged (loops (c .opened)) (first .long) (second .long))))
         where
           joined : Closed k d₂ z (A .rest) (S .rest) i j → Closed (suc n) c z t u i j
           joined after = record {
@@ -510,7 +510,7 @@ module _ {K : Kernel} {e e₂ : Layout} (tied : Tied K e e₂) (reads : Reads K)
       go : (k : ℕ) × (d₂ : Place) × (second .left ≡ suc k) × Step K (second .place) d₂ × Path K k d₂ z → Closed (suc n) c z t u i j
       go (k, d₂, count, st, more) =
           let (positions, d-is) = closes-second st ends (ap (said (K .stream-program)) (second .stream-at) ∙ S .ends) (second .opened-is ∙ opened-is) in
-          finish count more positions (behind (second .place) d₂ (c .opened) (merged (loops (c .opened)) (first .place .ledger) (second .place .ledger)) d-is (second .array-at) (second .stream-at))
+          finish count more positions (after-block (second .place) d₂ (c .opened) (merged (loops (c .opened)) (first .place .ledger) (second .place .ledger)) d-is (second .array-at) (second .stream-at))
 
   -- from a first branch that is done to the second
   second-branch : {n : ℕ} {c z : Place} {t u : Block} {i j p : ℕ} → Finished K z → (b : Blocks c t u i j) → Fewer n z
@@ -523,15 +523,15 @@ module _ {K : Kernel} {e e₂ : Layout} (tied : Tied K e e₂) (reads : Reads K)
       elses-here : said (K .array-program) (first .place .array) ≡ else
       elses-here = ap (said (K .array-program)) (first .array-at) ∙ A .elses
 
-      finish : {m : ℕ} {d : Place} → first .left ≡ suc m → Path K m d z → Behind (first .place) d (A .else-at) (S .else-at) (Opened.in-else (first .place .ledger) ∷ c .opened) (c .ledger) → Closed (suc n) c z t u i j
+      finish : {m : ℕ} {d : Place} → first .left ≡ suc m → Path K m d z → AfterBlock (first .place) d (A .else-at) (S .else-at) (Opened.in-else (first .place .ledger) ∷ c .opened) (c .ledger) → Closed (suc n) c z t u i j
       finish {m} {d} count more h =
-          behind-branch fin b rec A S (ap loops opened-is) ledger-is first (ap loops (h .opened)) (h .ledger)
-          (rec m d (omega (arith, first .fewer, count)) more (A .second) (S .second) (A .end-at) (S .end-at) (blocks-behind (open-else ∷ b .array-open) (open-else ∷ b .stream-open) h (A .other) (S .other) (b .levels) (b .long)))
+          after-branch fin b rec A S (ap loops opened-is) ledger-is first (ap loops (h .opened)) (h .ledger)
+          (rec m d (omega (arith, first .fewer, count)) more (A .second) (S .second) (A .end-at) (S .end-at) (blocks-after (open-else ∷ b .array-open) (open-else ∷ b .stream-open) h (A .other) (S .other) (b .levels) (b .long)))
           (omega (arith, first .fewer, count)) (h .opened)
 
       go : (m : ℕ) × (d : Place) × (first .left ≡ suc m) × Step K (first .place) d × Path K m d z → Closed (suc n) c z t u i j
       go (m, d, count, st, more) =
-          finish count more (behind (first .place) d (Opened.in-else (first .place .ledger) ∷ c .opened) (c .ledger)
+          finish count more (after-block (first .place) d (Opened.in-else (first .place .ledger) ∷ c .opened) (c .ledger)
           (closes-first st elses-here (ap (said (K .stream-program)) (first .stream-at) ∙ S .elses) (first .opened-is ∙ opened-is)) (first .array-at) (first .stream-at))
 
   closed-branch : {n : ℕ} {c z : Place} {t u : Block} {i j : ℕ} (a s : Rec) → said (K .array-program) (c .array) ≡ statement a → said (K .stream-program) (c .stream) ≡ statement s

@@ -12,7 +12,7 @@ use Rattle.kernel.specs.Memory as Memory
 use Rattle.kernel.specs.Memory.{on-areas, afterwards}
 use Rattle.run_calls.specs.declared.Done.{Done}
 use Rattle.run_calls.specs.declared.Done.the-variants.{Refused, Finished}
-use Rattle.run_calls.specs.View.{Told, told, finished, done}
+use Rattle.run_calls.specs.View.{Answer, answer-of, finished, done}
 use Rattle.run_calls.proofs.Calls.{call-reads, both-right}
 
 -- its work is done
@@ -22,12 +22,12 @@ works from to makes file first second K e p q =
     call-reads from to makes file first second K e ∙ both-right from to makes K first second (eq-eqb (length first) (4 * from K) p) (eq-eqb (length second) (4 * to K) q)
 
 -- what it tells of it
-abbrev pub tells : Memory.Ran → Told
+abbrev pub tells : Memory.Ran → Answer
 tells r = record { ending = r .ending; read = r .read; written = r .written }
 
-pub run-told : {r : Result Fault Memory.Ran} {t : Result Fault Told} (m : Memory.Ran) → t ≡ told r → r ≡ ok m → t ≡ ok (tells m)
-unfolding told
-run-told m h e = h ∙ ap told e
+pub run-answer : {r : Result Fault Memory.Ran} {t : Result Fault Answer} (m : Memory.Ran) → t ≡ answer-of r → r ≡ ok m → t ≡ ok (tells m)
+unfolding answer-of
+run-answer m h e = h ∙ ap answer-of e
 
 is-finished : (a : Done) → done a ≡ ok tt → a ≡ Finished
 unfolding done

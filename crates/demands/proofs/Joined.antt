@@ -15,7 +15,7 @@ use Rattle.agreement.proofs.Ended.{lengths-kept}
 use Rattle.demands.specs.Demands.{Job, Called, Sized, Agreed, Demand3, Demands}
 use Rattle.check_file.proofs.One.{accepts}
 use Rattle.demands.proofs.Wrapped.{words-below, laid-read, laid-length, put-back-read}
-use Rattle.demands.proofs.Answered.{works, tells, run-told, move-finished, area-left}
+use Rattle.demands.proofs.Answered.{works, tells, run-answer, move-finished, area-left}
 use Rattle.demands.proofs.Kept.{demand-1}
 use Rattle.demands.proofs.Exactly.{demand-2}
 
@@ -82,8 +82,8 @@ module _ (j : Job) (K : Kernel) where
 
     joined : Agree K array stream → Agreed K j (tells array) (tells stream)
     joined agree = record {
-      array-told = run-told array (called .array-run .0) array-ran-so;
-      stream-told = run-told stream (called .stream-run .0) stream-ran-so;
+      array-answer = run-answer array (called .array-run .0) array-ran-so;
+      stream-answer = run-answer stream (called .stream-run .0) stream-ran-so;
       all-laid = move-finished (j .laid) laid (called .laying-out .0) laid-so;
       all-placed = move-finished (j .placed) (put-back K (words (j .items))) (called .putting-back .0) placed-so;
       end-alike = agree .end-alike;

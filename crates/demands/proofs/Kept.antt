@@ -15,7 +15,7 @@ use Rattle.run_calls.specs.declared.Ran.{Ran}
 use Rattle.run_calls.specs.declared.Ran.the-variants as Ran
 use Rattle.run_calls.specs.declared.Done.{Done}
 use Rattle.run_calls.specs.declared.Done.the-variants as Done
-use Rattle.run_calls.specs.View.{told, answer, finished, done}
+use Rattle.run_calls.specs.View.{answer-of, answer, finished, done}
 use Rattle.run_calls.specs.Promises.{Runs, Moves}
 use Rattle.run_calls.proofs.One.{one-run, one-move}
 use Rattle.demands.specs.Demands.{RunRefused, MoveRefused, Keeps, Demand1}
@@ -28,13 +28,13 @@ same-call from to makes file given before other h = ap (λ n. read-file file >>=
 
 -- ---- runs
 
-run-stops : (r : Result Fault Memory.Ran) (f : Fault) (before : List ℕ) → told r ≡ stop f → afterwards (λ m. m .memory) before r ≡ before
-unfolding told afterwards
+run-stops : (r : Result Fault Memory.Ran) (f : Fault) (before : List ℕ) → answer-of r ≡ stop f → afterwards (λ m. m .memory) before r ≡ before
+unfolding answer-of afterwards
 run-stops (ok m) f before e = cc
 run-stops (stop g) f before e = refl
 
-run-goes : (r : Result Fault Memory.Ran) (a : Ran) (before other : List ℕ) → answer a ≡ told r → (RunRefused a → ⊥) → afterwards (λ m. m .memory) before r ≡ afterwards (λ m. m .memory) other r
-unfolding told afterwards answer
+run-goes : (r : Result Fault Memory.Ran) (a : Ran) (before other : List ℕ) → answer a ≡ answer-of r → (RunRefused a → ⊥) → afterwards (λ m. m .memory) before r ≡ afterwards (λ m. m .memory) other r
+unfolding answer-of afterwards answer
 run-goes (ok m) a before other e n = refl
 run-goes (stop f) (Ran.Refused number section place) before other e n = absurd (n (number, section, place, refl))
 run-goes (stop f) (Ran.Ended read written) before other e n = cc
@@ -47,7 +47,7 @@ run-keeps from to makes = record {
       p .1 ∙ run-stops (on-areas from to makes file given before) (fault number section place) before (sym (p .0) ∙ ap answer e);
   old-contents = λ file given before other a b x y h p q.
       let s = same-call from to makes file given before other h in
-      let q′ : Runs (on-areas from to makes file given before) other b y = (q .0 ∙ ap told (sym s), q .1 ∙ ap (afterwards (λ m. m .memory) other) (sym s)) in (
+      let q′ : Runs (on-areas from to makes file given before) other b y = (q .0 ∙ ap answer-of (sym s), q .1 ∙ ap (afterwards (λ m. m .memory) other) (sym s)) in (
         one-run (on-areas from to makes file given before) other a b (afterwards (λ m. m .memory) other (on-areas from to makes file given before)) y (p .0, refl) q′ .0,
         λ n. p .1 ∙ run-goes (on-areas from to makes file given before) a before other (p .0) n ∙ sym (q′ .1),
       );

@@ -17,7 +17,7 @@ use Rattle.run_calls.specs.declared.Ran.{Ran}
 use Rattle.run_calls.specs.declared.Ran.the-variants as Ran
 use Rattle.run_calls.specs.declared.Done.{Done}
 use Rattle.run_calls.specs.declared.Done.the-variants as Done
-use Rattle.run_calls.specs.View.{Told, answer}
+use Rattle.run_calls.specs.View.{Answer, answer}
 use Rattle.run_calls.specs.Promises.{ArrayRun, StreamRun, LayOut, PutBack}
 use Rattle.check_file.specs.declared.Refusal.{Refusal}
 use Rattle.check_file.specs.declared.Checked.{Checked}
@@ -98,10 +98,10 @@ pub record Sized (K : Kernel) (j : Job) : Type 0 where
   pub back : length (j .back-before) ≡ 4 * total output length-of K
 
 -- what the job then comes to
-pub record Agreed (K : Kernel) (j : Job) (array stream : Told) : Type 0 where
+pub record Agreed (K : Kernel) (j : Job) (array stream : Answer) : Type 0 where
   -- no call is refused
-  pub array-told : answer (j .array) ≡ ok array
-  pub stream-told : answer (j .stream) ≡ ok stream
+  pub array-answer : answer (j .array) ≡ ok array
+  pub stream-answer : answer (j .stream) ≡ ok stream
   pub all-laid : j .laid ≡ Done.Finished
   pub all-placed : j .placed ≡ Done.Finished
   -- "the array run ends exactly when the stream run ends"
@@ -117,7 +117,7 @@ pub record Agreed (K : Kernel) (j : Job) (array stream : Told) : Type 0 where
 
 -- for any file that the check accepts
 abbrev pub Demand3 : Type 0
-Demand3 = (j : Job) → Called j → j .checked ≡ Checked.Accepted → (K : Kernel) → read-file (j .file) ≡ ok K → Sized K j → (array : Told) × (stream : Told) × Agreed K j array stream
+Demand3 = (j : Job) → Called j → j .checked ≡ Checked.Accepted → (K : Kernel) → read-file (j .file) ≡ ok K → Sized K j → (array : Answer) × (stream : Answer) × Agreed K j array stream
 
 -- ---- all three
 

@@ -5,7 +5,7 @@ pub data Result (E A : Type 0) : Type 0 where
   ok : A → Result E A
   stop : E → Result E A
 
--- what follows waits behind its λ until there is a value; `do` is written with it
+-- what follows waits in its λ until there is a value; `do` is written with it
 infixl 10 _>>=_
 unfoldable pub _>>=_ : {E A B : Type 0} → Result E A → (A → Result E B) → Result E B
 ok a >>= f = f a

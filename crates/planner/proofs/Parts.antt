@@ -18,8 +18,8 @@ below-before : (ns : List ℕ) → AllBelow 65536 (ns ++ 0 ∷ []) → AllBelow 
 below-before [] a = none-there
 below-before (n ∷ ns) (below-too h a) = below-too h (below-before ns a)
 
-pub untold : (word : ℕ) (ns : List ℕ) → Tells word (ns ++ 0 ∷ []) → Tells word ns
-untold word ns (e, a) = (e ∙ packed-last ns, below-before ns a)
+pub tells-before : (word : ℕ) (ns : List ℕ) → Tells word (ns ++ 0 ∷ []) → Tells word ns
+tells-before word ns (e, a) = (e ∙ packed-last ns, below-before ns a)
 
 -- ---- reading back
 

@@ -48,19 +48,19 @@ module _ (ws : List ℕ) (f : Found) where
 
 -- ---- a section, from its count
 
-behind : ℕ × List ℕ → Result Fault (List Rec × List ℕ)
-behind (n, ws) = do
+from-count : ℕ × List ℕ → Result Fault (List Rec × List ℕ)
+from-count (n, ws) = do
   _ ← need (fault 1 0 0) (leb (8 * n) (length ws))
   ok (records n ws, drop (8 * n) ws)
 
 module _ (ws : List ℕ) (p s low high : ℕ) (f : Found) (e : counted ws f ≡ count s low high (drop p ws)) where
   pub section-stop : (f .number ≡ 0 → ⊥) → section s low high (drop p ws) ≡ stop (fault (f .number) (f .section) 0)
-  unfolding section behind
-  section-stop h = stops behind e (counted-stop ws f h)
+  unfolding section from-count
+  section-stop h = stops from-count e (counted-stop ws f h)
 
-  section-go : f .number ≡ 0 → section s low high (drop p ws) ≡ behind (f .count, drop (f .next) ws)
-  unfolding section behind
-  section-go h = goes behind e (counted-go ws f h)
+  section-go : f .number ≡ 0 → section s low high (drop p ws) ≡ from-count (f .count, drop (f .next) ws)
+  unfolding section from-count
+  section-go h = goes from-count e (counted-go ws f h)
 
   -- a count that is found stands inside
   inside : f .number ≡ 0 → p < length ws
@@ -76,7 +76,7 @@ module _ (ws : List ℕ) (p s low high : ℕ) (f : Found) (e : counted ws f ≡ 
           absurd (omega arith)
 
   pub section-short : f .number ≡ 0 → f .next ≡ p + 1 → length ws < f .next + 8 * f .count → section s low high (drop p ws) ≡ stop (fault 1 0 0)
-  unfolding behind need _>>=_
+  unfolding from-count need _>>=_
   section-short h n l =
       section-go h
       ∙ ap (λ t. need (fault 1 0 0) t >>= λ _. ok (records (f .count) (drop (f .next) ws), drop (8 * f .count) (drop (f .next) ws)))
@@ -84,7 +84,7 @@ module _ (ws : List ℕ) (p s low high : ℕ) (f : Found) (e : counted ws f ≡ 
 
   pub section-there : f .number ≡ 0 → f .next + 8 * f .count ≤ length ws
       → section s low high (drop p ws) ≡ ok (records (f .count) (drop (f .next) ws), drop (f .next + 8 * f .count) ws)
-  unfolding behind need _>>=_
+  unfolding from-count need _>>=_
   section-there h l =
       section-go h
       ∙ ap (λ t. need (fault 1 0 0) t >>= λ _. ok (records (f .count) (drop (f .next) ws), drop (8 * f .count) (drop (f .next) ws)))

@@ -21,7 +21,7 @@ use Rattle.memory.specs.Sizes.{total}
 use Rattle.run_calls.specs.declared.Ran.{Ran}
 use Rattle.run_calls.specs.declared.Ran.the-variants.{Refused}
 use Rattle.run_calls.specs.declared.Done.the-variants as As
-use Rattle.run_calls.specs.View.{told, answer, finished, done, on-kernel, program-ran, run-of}
+use Rattle.run_calls.specs.View.{answer-of, answer, finished, done, on-kernel, program-ran, run-of}
 use Rattle.run_calls.specs.Promises.{Runs, Moves}
 
 -- ---- lengths
@@ -51,12 +51,12 @@ measured-as file c side length m r t e z = sym e ∙ z
 -- ---- promises
 
 pub refused-run : (r : Result Fault Memory.Ran) (before : List ℕ) (number section place : ℕ) → r ≡ stop (fault number section place) → Runs r before (Refused number section place) before
-unfolding answer told afterwards
-refused-run r before number section place e = (sym (ap told e), sym (ap (afterwards (λ m. m .memory) before) e))
+unfolding answer answer-of afterwards
+refused-run r before number section place e = (sym (ap answer-of e), sym (ap (afterwards (λ m. m .memory) before) e))
 
-pub ran-run : (r : Result Fault Memory.Ran) (before after : List ℕ) (a : Ran) (m : Memory.Ran) → r ≡ ok m → answer a ≡ told (ok m) → after ≡ bytes (m .memory) → Runs r before a after
+pub ran-run : (r : Result Fault Memory.Ran) (before after : List ℕ) (a : Ran) (m : Memory.Ran) → r ≡ ok m → answer a ≡ answer-of (ok m) → after ≡ bytes (m .memory) → Runs r before a after
 unfolding afterwards
-ran-run r before after a m e f g = (f ∙ sym (ap told e), g ∙ sym (ap (afterwards (λ m. m .memory) before) e))
+ran-run r before after a m e f g = (f ∙ sym (ap answer-of e), g ∙ sym (ap (afterwards (λ m. m .memory) before) e))
 
 pub refused-move : (r : Result Fault (List ℕ)) (before : List ℕ) (number section place : ℕ) → r ≡ stop (fault number section place) → Moves r before (As.Refused number section place) before
 unfolding done finished afterwards

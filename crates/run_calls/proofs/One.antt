@@ -10,14 +10,14 @@ use Rattle.run_calls.specs.declared.Ran.{Ran}
 use Rattle.run_calls.specs.declared.Ran.the-variants.{Refused, Ended, Stuck}
 use Rattle.run_calls.specs.declared.Done.{Done}
 use Rattle.run_calls.specs.declared.Done.the-variants as As
-use Rattle.run_calls.specs.View.{Told, answer, done}
+use Rattle.run_calls.specs.View.{Answer, answer, done}
 use Rattle.run_calls.specs.Promises.{Runs, Moves, ArrayRun, StreamRun, LayOut, PutBack}
 
 ending-of : Ending → (read written : ℕ) → Ran
 ending-of ended read written = Ended read written
 ending-of (sticks reason n) read written = Stuck reason n read written
 
-ran-of : Result Fault Told → Ran
+ran-of : Result Fault Answer → Ran
 ran-of (ok t) = ending-of (t .ending) (t .read) (t .written)
 ran-of (stop (fault number section place)) = Refused number section place
 

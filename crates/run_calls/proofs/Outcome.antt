@@ -18,7 +18,7 @@ use Rattle.parts.specs.declared.Measure.{Measure}
 use Rattle.parts.specs.Arrays.{measure}
 use Rattle.memory.specs.Sizes.{total, size}
 use Rattle.run_calls.specs.declared.Ran.the-variants.{Ended, Stuck as Sticks}
-use Rattle.run_calls.specs.View.{told, answer}
+use Rattle.run_calls.specs.View.{answer-of, answer}
 use Rattle.run_calls.proofs.Items.{Leaves, Placed, run-placed, moved-most}
 
 -- ---- the items moved
@@ -48,17 +48,17 @@ module _ (e : Layout) (arrays : List Rec) (m : Measure) (reason at : ℕ) (s : S
 -- ---- the answer
 
 module _ (K : Kernel) (reason n rd wr : ℕ) (s : State) (r : rd ≡ moved input 0 (K .arrays) s) (w : wr ≡ moved output 0 (K .arrays) s) where
-  pub ended-is : reason ≡ 0 → answer (Ended rd wr) ≡ told (ok (Memory.ran K (stopped reason n s)))
-  unfolding answer told stopped Memory.ran
+  pub ended-is : reason ≡ 0 → answer (Ended rd wr) ≡ answer-of (ok (Memory.ran K (stopped reason n s)))
+  unfolding answer answer-of stopped Memory.ran
   ended-is z =
       (λ i. ok (record { ending = ended; read = r i; written = w i }))
-      ∙ sym (ap (λ (t : Bool). told (ok (Memory.ran K (cond t (ok s) (stop (stuck reason n s)))))) (eq-eqb reason 0 z))
+      ∙ sym (ap (λ (t : Bool). answer-of (ok (Memory.ran K (cond t (ok s) (stop (stuck reason n s)))))) (eq-eqb reason 0 z))
 
-  pub stuck-is : (reason ≡ 0 → ⊥) → answer (Sticks reason n rd wr) ≡ told (ok (Memory.ran K (stopped reason n s)))
-  unfolding answer told stopped Memory.ran
+  pub stuck-is : (reason ≡ 0 → ⊥) → answer (Sticks reason n rd wr) ≡ answer-of (ok (Memory.ran K (stopped reason n s)))
+  unfolding answer answer-of stopped Memory.ran
   stuck-is z =
       (λ i. ok (record { ending = sticks reason n; read = r i; written = w i }))
-      ∙ sym (ap (λ (t : Bool). told (ok (Memory.ran K (cond t (ok s) (stop (stuck reason n s)))))) (ne-eqb reason 0 z))
+      ∙ sym (ap (λ (t : Bool). answer-of (ok (Memory.ran K (cond t (ok s) (stop (stuck reason n s)))))) (ne-eqb reason 0 z))
 
 -- the memory is the state's, ended or stuck
 chosen-memory : (K : Kernel) (t : Bool) (reason n : ℕ) (s : State) → s .output ≡ Memory.ran K (cond t (ok s) (stop (stuck reason n s))) .memory

@@ -9,11 +9,11 @@ use Rattle.kernel.specs.Memory as Memory
 use Rattle.kernel.specs.Memory.{afterwards}
 use Rattle.run_calls.specs.declared.Ran.{Ran}
 use Rattle.run_calls.specs.declared.Done.{Done}
-use Rattle.run_calls.specs.View.{told, answer, finished, done}
+use Rattle.run_calls.specs.View.{answer-of, answer, finished, done}
 
 -- a run comes to what its definition gives
 abbrev pub Runs : Result Fault Memory.Ran → (before : List ℕ) → Ran → (after : List ℕ) → Type 0
-Runs r before a after = (answer a ≡ told r) × (after ≡ afterwards (λ m. m .memory) before r)
+Runs r before a after = (answer a ≡ answer-of r) × (after ≡ afterwards (λ m. m .memory) before r)
 
 -- so does laying out or putting back
 abbrev pub Moves : Result Fault (List ℕ) → (before : List ℕ) → Done → (after : List ℕ) → Type 0

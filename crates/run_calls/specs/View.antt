@@ -24,22 +24,22 @@ use Rattle.run_calls.specs.declared.Ran.the-variants.{Refused, Ended, St
 use Rattle.run_calls.specs.declared.Done.{Done}
 use Rattle.run_calls.specs.declared.Done.the-variants as As
 
--- what a run tells besides the memory that it leaves
-pub record Told : Type 0 where
+-- what a run answers besides the memory that it leaves
+pub record Answer : Type 0 where
   pub ending : Ending
   pub read : ℕ
   pub written : ℕ
 
-unfoldable pub told : Result Fault Memory.Ran → Result Fault Told
-told (ok r) = ok (record { ending = r .ending; read = r .read; written = r .written })
-told (stop f) = stop f
+unfoldable pub answer-of : Result Fault Memory.Ran → Result Fault Answer
+answer-of (ok r) = ok (record { ending = r .ending; read = r .read; written = r .written })
+answer-of (stop f) = stop f
 
-unfoldable pub answer : Ran → Result Fault Told
+unfoldable pub answer : Ran → Result Fault Answer
 answer (Refused number section place) = stop (fault number section place)
 answer (Ended read written) = ok (record { ending = ended; read = read; written = written })
 answer (Stuck reason n read written) = ok (record { ending = sticks reason n; read = read; written = written })
 
--- laying out and putting back tell only whether they were done
+-- laying out and putting back answer only whether they were done
 unfoldable pub finished : Result Fault (List ℕ) → Result Fault (Unit {0})
 finished (ok m) = ok tt
 finished (stop f) = stop f

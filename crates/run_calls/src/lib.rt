@@ -15,7 +15,7 @@ ghost use Rattle.kernel.specs.File as File;
 ghost use Rattle.parts.specs.Parts.{ReadAs};
 ghost use Rattle.parts.specs.Arrays.{arrays-of, Arrays};
 ghost use Rattle.memory.specs.Sizes.{total};
-ghost use Rattle.run_calls.specs.View.{told, answer, ran, run-of, Ready};
+ghost use Rattle.run_calls.specs.View.{answer-of, answer, ran, run-of, Ready};
 ghost use Rattle.run_calls.specs.Promises.{Runs, ArrayRun, StreamRun, LayOut, PutBack};
 
 pub enum Ran {
@@ -60,7 +60,7 @@ fn outside() -> Counters
 // A run that starts: the output is cleared, the registers are unset and every stream is at its first item, whatever the last run wrote.
 fn started(file: &[u8], c: Counts, part: Part, m: Measure, input: &[u8], output: &mut [u8]) -> Ran
     requires { ⌜ Ready (now file) c part × (length (now output) ≡ 4 * total File.output m (arrays-of (now file) (c .a))) ⌝ }
-    ensures { λ r. ⌜ (answer r ≡ told (ok (ran m (now (file .entry)) c part (now (input .entry)))))
+    ensures { λ r. ⌜ (answer r ≡ answer-of (ok (ran m (now (file .entry)) c part (now (input .entry)))))
         × (now (output .exit) ≡ bytes (ran m (now (file .entry)) c part (now (input .entry)) .memory)) ⌝ }
 {
     memory::clear(output);

@@ -3,7 +3,7 @@ use mathlib.Core.List.{[], _∷_}
 use borrow.Author.Needs.{needs}
 use Rattle.kernel.specs.Answers.{check-numbers, fault-numbers, refusal-numbers}
 use Rattle.check_file.specs.View.{answer}
-use Rattle.planner.proofs.Parts.{untold}
+use Rattle.planner.proofs.Parts.{tells-before}
 use Rattle.planner.proofs.Answered.{check-tells}
 use Rattle.planner.proofs.checked_word.Statement.{statement}
 use Rattle.planner.proofs.checked_word.Tie as tie
@@ -32,7 +32,7 @@ packed-requires-2 c κs = search needs
 returns : tie.Need-returns
 unfolding answer check-numbers
 returns c =
-    check-tells _ _ _ (c .before .enum-told .given .1) (untold _ (0 ∷ []) (untold _ (0 ∷ 0 ∷ []) (untold _ (0 ∷ 0 ∷ 0 ∷ []) (c .packed .ensures))))
+    check-tells _ _ _ (c .before .enum-told .given .1) (tells-before _ (0 ∷ []) (tells-before _ (0 ∷ 0 ∷ []) (tells-before _ (0 ∷ 0 ∷ 0 ∷ []) (c .packed .ensures))))
 
 returns-2 : tie.Need-returns-2
 unfolding answer check-numbers fault-numbers

@@ -2,7 +2,7 @@
 use borrow.Author.Needs.{needs}
 use Rattle.kernel.specs.Answers.{fault-numbers, ending-numbers}
 use Rattle.run_calls.specs.View.{answer}
-use Rattle.planner.proofs.Answered.{stream-told, stream-tells}
+use Rattle.planner.proofs.Answered.{stream-answer-numbers, stream-tells}
 use Rattle.planner.proofs.counted_word.Statement.{statement}
 use Rattle.planner.proofs.counted_word.Tie as tie
 
@@ -28,17 +28,17 @@ packed-requires-2 : tie.Need-packed-requires-2
 packed-requires-2 c κs = search needs
 
 returns : tie.Need-returns
-unfolding answer stream-told fault-numbers
+unfolding answer stream-answer-numbers fault-numbers
 returns c =
     λ m e. stream-tells _ _ _ (c .before .before .x .given .1) m e (c .refused-word .ensures)
 
 returns-2 : tie.Need-returns-2
-unfolding answer stream-told ending-numbers
+unfolding answer stream-answer-numbers ending-numbers
 returns-2 c =
     λ m e. stream-tells _ _ _ (c .before .before .x2 .given .1) m e (c .packed .ensures)
 
 returns-3 : tie.Need-returns-3
-unfolding answer stream-told ending-numbers
+unfolding answer stream-answer-numbers ending-numbers
 returns-3 c =
     λ m e. stream-tells _ _ _ (c .before .before .x3 .given .1) m e (c .packed2 .ensures)
 

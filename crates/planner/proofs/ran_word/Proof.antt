@@ -3,8 +3,8 @@ use mathlib.Core.List.{[], _∷_}
 use borrow.Author.Needs.{needs}
 use Rattle.kernel.specs.Answers.{fault-numbers, ending-numbers}
 use Rattle.run_calls.specs.View.{answer}
-use Rattle.planner.proofs.Parts.{untold}
-use Rattle.planner.proofs.Answered.{array-told, array-tells}
+use Rattle.planner.proofs.Parts.{tells-before}
+use Rattle.planner.proofs.Answered.{array-answer-numbers, array-tells}
 use Rattle.planner.proofs.ran_word.Statement.{statement}
 use Rattle.planner.proofs.ran_word.Tie as tie
 
@@ -30,19 +30,19 @@ packed-requires-2 : tie.Need-packed-requires-2
 packed-requires-2 c κs = search needs
 
 returns : tie.Need-returns
-unfolding answer array-told fault-numbers
+unfolding answer array-answer-numbers fault-numbers
 returns c =
     λ m e. array-tells _ _ _ (c .before .before .x .given .1) m e (c .refused-word .ensures)
 
 returns-2 : tie.Need-returns-2
-unfolding answer array-told ending-numbers
+unfolding answer array-answer-numbers ending-numbers
 returns-2 c =
-    λ m e. array-tells _ _ _ (c .before .enum-told .given .1) m e (untold _ (0 ∷ 0 ∷ []) (untold _ (0 ∷ 0 ∷ 0 ∷ []) (c .packed .ensures)))
+    λ m e. array-tells _ _ _ (c .before .enum-told .given .1) m e (tells-before _ (0 ∷ 0 ∷ []) (tells-before _ (0 ∷ 0 ∷ 0 ∷ []) (c .packed .ensures)))
 
 returns-3 : tie.Need-returns-3
-unfolding answer array-told ending-numbers
+unfolding answer array-answer-numbers ending-numbers
 returns-3 c =
-    λ m e. array-tells _ _ _ (c .before .before .x2 .given .1) m e (untold _ (_ ∷ _ ∷ []) (untold _ (_ ∷ _ ∷ 0 ∷ []) (c .packed2 .ensures)))
+    λ m e. array-tells _ _ _ (c .before .before .x2 .given .1) m e (tells-before _ (_ ∷ _ ∷ []) (tells-before _ (_ ∷ _ ∷ 0 ∷ []) (c .packed2 .ensures)))
 
 pub ran-word-spec : {M : Type 1} → statement M
 ran-word-spec =

@@ -1,7 +1,7 @@
 -- `planner::refused_word` meets its contract: the fourth part is 0.
 use mathlib.Core.List.{[], _∷_}
 use borrow.Author.Needs.{needs}
-use Rattle.planner.proofs.Parts.{untold}
+use Rattle.planner.proofs.Parts.{tells-before}
 use Rattle.planner.proofs.refused_word.Statement.{statement}
 use Rattle.planner.proofs.refused_word.Tie as tie
 
@@ -10,7 +10,7 @@ packed-requires c κs = search needs
 
 returns : tie.Need-returns
 returns c =
-    untold _ (_ ∷ _ ∷ _ ∷ []) (c .packed .ensures)
+    tells-before _ (_ ∷ _ ∷ _ ∷ []) (c .packed .ensures)
 
 pub refused-word-spec : {M : Type 1} → statement M
 refused-word-spec = tie.close (tie.spec packed-requires returns)

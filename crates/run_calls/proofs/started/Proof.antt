@@ -21,7 +21,7 @@ use Rattle.run_loops.specs.declared.Counters.{Counters}
 use Rattle.run_loops.specs.View.{counters, CountersSmall}
 use Rattle.run_ops.specs.States.{state, stopped}
 use Rattle.run_ops.specs.Layout.{layout}
-use Rattle.run_calls.specs.View.{told, program-ran}
+use Rattle.run_calls.specs.View.{answer-of, program-ran}
 use Rattle.run_calls.proofs.Ready.{inputs-few, outputs-few, cleared-words, cleared-whole, layout-is, start-is, tree-is}
 use Rattle.run_calls.proofs.Outcome.{items-few, ended-is, stuck-is, memory-is}
 use Rattle.run_calls.proofs.started.Statement.{statement}
@@ -125,7 +125,7 @@ returns : tie.Need-returns
 unfolding program-ran kernel
 returns c =
     let r = c .before .before .before .before .before .before .before .before in
-    (ended-is (K (start r)) _ _ _ _ (after r) (c .before .before .before .before .moved .ensures (after r) refl) (c .before .before .moved2 .ensures (after r) refl) (c .if1 .taken) ∙ ap (λ x. told (ok (Memory.ran (K (start r)) x))) (runs r), memory-after r)
+    (ended-is (K (start r)) _ _ _ _ (after r) (c .before .before .before .before .moved .ensures (after r) refl) (c .before .before .moved2 .ensures (after r) refl) (c .if1 .taken) ∙ ap (λ x. answer-of (ok (Memory.ran (K (start r)) x))) (runs r), memory-after r)
 
 same-length-2 : tie.Need-same-length-2
 same-length-2 c = long (c .before .before .before .before .before .before .before .before)
@@ -134,7 +134,7 @@ returns-2 : tie.Need-returns-2
 unfolding program-ran kernel
 returns-2 c =
     let r = c .before .before .before .before .before .before .before .before in
-    (stuck-is (K (start r)) _ _ _ _ (after r) (c .before .before .before .before .moved .ensures (after r) refl) (c .before .before .moved2 .ensures (after r) refl) (c .if1 .left) ∙ ap (λ x. told (ok (Memory.ran (K (start r)) x))) (runs r), memory-after r)
+    (stuck-is (K (start r)) _ _ _ _ (after r) (c .before .before .before .before .moved .ensures (after r) refl) (c .before .before .moved2 .ensures (after r) refl) (c .if1 .left) ∙ ap (λ x. answer-of (ok (Memory.ran (K (start r)) x))) (runs r), memory-after r)
 
 pub started-spec : {M : Type 1} → statement M
 started-spec =
