@@ -6,6 +6,7 @@ use lib.ListN.{length}
 use borrow.Author.Tests.{eq-eqb}
 use Rattle.numbers.specs.Result.{Result, ok}
 use Rattle.numbers.specs.Words.{words, bytes}
+use Rattle.numbers.proofs.Tests.{and-true}
 use Rattle.kernel.specs.File.{Kernel}
 use Rattle.kernel.specs.Reading.{Fault, read-file}
 use Rattle.kernel.specs.Memory as Memory
@@ -13,15 +14,15 @@ use Rattle.kernel.specs.Memory.{on-areas, afterwards}
 use Rattle.run_calls.specs.declared.Done.{Done}
 use Rattle.run_calls.specs.declared.Done.the-variants.{Refused, Finished}
 use Rattle.run_calls.specs.View.{Answer, answer-of, finished, done}
-use Rattle.run_calls.proofs.Calls.{call-reads, both-right}
+use Rattle.run_calls.proofs.Calls.{call-reads, right-lengths}
 
 -- its work is done
 pub works : {A : Type 0} (from to : Kernel → ℕ) (makes : Kernel → List ℕ → A) (file first second : List ℕ) (K : Kernel) → read-file file ≡ ok K
     → length first ≡ 4 * from K → length second ≡ 4 * to K → on-areas from to makes file first second ≡ ok (makes K (words first))
 works from to makes file first second K e p q =
-    call-reads from to makes file first second K e ∙ both-right from to makes K first second (eq-eqb (length first) (4 * from K) p) (eq-eqb (length second) (4 * to K) q)
+    call-reads from to makes file first second K e ∙ right-lengths from to makes K first second (and-true (eq-eqb (length first) (4 * from K) p) (eq-eqb (length second) (4 * to K) q))
 
--- what it tells of it
+-- what it answers of it
 abbrev pub tells : Memory.Ran → Answer
 tells r = record { ending = r .ending; read = r .read; written = r .written }
 

@@ -5,6 +5,8 @@ use mathlib.Core.Bool.{Bool, true, false, _&&_}
 use mathlib.Core.List.{List}
 use lib.Dec.{eqb}
 use lib.ListN.{length}
+use borrow.Author.Tests.{eqb-true}
+use Rattle.numbers.proofs.Tests.{and-left, and-right}
 use Rattle.numbers.specs.Result.{Result, ok, stop, _>>=_, need}
 use Rattle.numbers.specs.Words.{words, bytes}
 use Rattle.kernel.specs.File.{Kernel, input, output, length-of, count-of}
@@ -13,40 +15,43 @@ use Rattle.kernel.specs.Memory as Memory
 use Rattle.kernel.specs.Memory.{afterwards, on-areas}
 use Rattle.parts.specs.declared.Counts.{Counts}
 use Rattle.parts.specs.declared.Part.{Part}
-use Rattle.parts.specs.declared.Measure.{Measure}
 use Rattle.parts.specs.declared.Measure.the-variants.{Cells, Items}
 use Rattle.parts.specs.Parts.{kernel, ReadAs, array-part, stream-part}
 use Rattle.parts.specs.Arrays.{arrays-of, measure}
 use Rattle.memory.specs.Sizes.{total}
+use Rattle.run_calls.specs.declared.Area.{Area}
 use Rattle.run_calls.specs.declared.Ran.{Ran}
 use Rattle.run_calls.specs.declared.Ran.the-variants.{Refused}
 use Rattle.run_calls.specs.declared.Done.the-variants as As
-use Rattle.run_calls.specs.View.{answer-of, answer, finished, done, on-kernel, program-ran, run-of}
+use Rattle.run_calls.specs.View.{answer-of, answer, finished, done, right-length, on-kernel, program-ran, run-of}
 use Rattle.run_calls.specs.Promises.{Runs, Moves}
 
 -- ---- lengths
 
 module _ {A : Type 0} (from to : Kernel → ℕ) (makes : Kernel → List ℕ → A) (K : Kernel) (first second : List ℕ) where
-  abbrev gone : Bool → Bool → Result Fault A
-  gone a b = need (fault 21 0 0) (a && b) >>= λ _. ok (makes K (words first))
+  abbrev both : Bool
+  both = eqb (length first) (4 * from K) && eqb (length second) (4 * to K)
 
-  pub wrong-first : eqb (length first) (4 * from K) ≡ false → on-kernel from to makes K first second ≡ stop (fault 21 0 0)
+  pub wrong-lengths : both ≡ false → on-kernel from to makes K first second ≡ stop (fault 21 0 0)
   unfolding on-kernel need _>>=_
-  wrong-first e = ap (λ a. gone a (eqb (length second) (4 * to K))) e
+  wrong-lengths e = ap (λ t. need (fault 21 0 0) t >>= λ _. ok (makes K (words first))) e
 
-  pub wrong-second : eqb (length first) (4 * from K) ≡ true → eqb (length second) (4 * to K) ≡ false → on-kernel from to makes K first second ≡ stop (fault 21 0 0)
+  pub right-lengths : both ≡ true → on-kernel from to makes K first second ≡ ok (makes K (words first))
   unfolding on-kernel need _>>=_
-  wrong-second e f = λ i. gone (e i) (f i)
+  right-lengths e = ap (λ t. need (fault 21 0 0) t >>= λ _. ok (makes K (words first))) e
 
-  pub both-right : eqb (length first) (4 * from K) ≡ true → eqb (length second) (4 * to K) ≡ true → on-kernel from to makes K first second ≡ ok (makes K (words first))
-  unfolding on-kernel need _>>=_
-  both-right e f = λ i. gone (e i) (f i)
+-- as the code tests them
+module _ (file : List ℕ) (c : Counts) (a b : Area) where
+  pub both-as : (r t : Bool) → r ≡ (right-length file (c .a) a && right-length file (c .a) b) → r ≡ t
+      → (eqb (a .bytes) (4 * Memory.total (a .side) (measure (a .measure)) (kernel file c)) && eqb (b .bytes) (4 * Memory.total (b .side) (measure (b .measure)) (kernel file c))) ≡ t
+  unfolding Memory.total kernel
+  both-as r t e z = sym e ∙ z
 
--- as the code measures them
-pub measured-as : (file : List ℕ) (c : Counts) (side length : ℕ) (m : Measure) (r t : Bool) → r ≡ eqb length (4 * total side m (arrays-of file (c .a))) → r ≡ t
-    → eqb length (4 * Memory.total side (measure m) (kernel file c)) ≡ t
-unfolding Memory.total kernel
-measured-as file c side length m r t e z = sym e ∙ z
+  pub each-long : (r : Bool) → r ≡ (right-length file (c .a) a && right-length file (c .a) b) → r ≡ true
+      → (a .bytes ≡ 4 * total (a .side) (a .measure) (arrays-of file (c .a))) × (b .bytes ≡ 4 * total (b .side) (b .measure) (arrays-of file (c .a)))
+  each-long r e z =
+      let so = sym e ∙ z in
+      (eqb-true _ _ (and-left (right-length file (c .a) a) (right-length file (c .a) b) so), eqb-true _ _ (and-right (right-length file (c .a) a) (right-length file (c .a) b) so))
 
 -- ---- promises
 

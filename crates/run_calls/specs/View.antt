@@ -1,6 +1,6 @@
 -- The answers of the code, seen as what the definitions give; and what reading has found of a file that is run.
 use Prim.Native.Nat.{ℕ, _*_, _≤_}
-use mathlib.Core.Bool.{_&&_}
+use mathlib.Core.Bool.{Bool, _&&_}
 use mathlib.Core.List.{List, []}
 use lib.Dec.{eqb}
 use lib.ListN.{length}
@@ -18,9 +18,11 @@ use Rattle.parts.specs.declared.Counts.{Counts}
 use Rattle.parts.specs.declared.Part.{Part}
 use Rattle.parts.specs.declared.Measure.{Measure}
 use Rattle.parts.specs.Parts.{records-in, kernel, ReadAs, Lies}
-use Rattle.parts.specs.Arrays.{measure}
+use Rattle.parts.specs.Arrays.{arrays-of, measure}
+use Rattle.memory.specs.Sizes as Sizes
 use Rattle.run_calls.specs.declared.Ran.{Ran}
 use Rattle.run_calls.specs.declared.Ran.the-variants.{Refused, Ended, Stuck}
+use Rattle.run_calls.specs.declared.Area.{Area}
 use Rattle.run_calls.specs.declared.Done.{Done}
 use Rattle.run_calls.specs.declared.Done.the-variants as As
 
@@ -47,6 +49,10 @@ finished (stop f) = stop f
 unfoldable pub done : Done → Result Fault (Unit {0})
 done (As.Refused number section place) = stop (fault number section place)
 done As.Finished = ok tt
+
+-- an area is as long as the cells or items of its side in a file of so many arrays
+abbrev pub right-length : (file : List ℕ) → (arrays : ℕ) → Area → Bool
+right-length file n a = eqb (a .bytes) (4 * Sizes.total (a .side) (a .measure) (arrays-of file n))
 
 -- the call on a kernel that was read: the two lengths, then what it makes of the first area's words
 unfoldable pub on-kernel : {A : Type 0} → (from to : Kernel → ℕ) → (Kernel → List ℕ → A) → Kernel → (first second : List ℕ) → Result Fault A

@@ -5,8 +5,8 @@ use parts::Part;
 use read_counts::Read;
 use run_loops::Counters;
 ghost use mathlib.Core.Path.{_≡_};
+ghost use mathlib.Core.Bool.{_&&_};
 ghost use Prim.Native.Nat.{_*_};
-ghost use lib.Dec.{eqb};
 ghost use lib.IntN.{pos};
 ghost use lib.ListN.{length};
 ghost use Rattle.numbers.specs.Result.{ok};
@@ -15,7 +15,7 @@ ghost use Rattle.kernel.specs.File as File;
 ghost use Rattle.parts.specs.Parts.{ReadAs};
 ghost use Rattle.parts.specs.Arrays.{arrays-of, Arrays};
 ghost use Rattle.memory.specs.Sizes.{total};
-ghost use Rattle.run_calls.specs.View.{answer-of, answer, ran, run-of, Ready};
+ghost use Rattle.run_calls.specs.View.{answer-of, answer, right-length, ran, run-of, Ready};
 ghost use Rattle.run_calls.specs.Promises.{Runs, ArrayRun, StreamRun, LayOut, PutBack};
 
 pub enum Ran {
@@ -33,12 +33,31 @@ pub enum Done {
     Finished,
 }
 
-// Whether an area is as long as the cells or items of a side.
-fn measured(file: &[u8], n: usize, m: Measure, side: u32, bytes: usize) -> bool
+// A lent area: how long it is, and the side whose cells or items it must be as long as.
+struct Area {
+    bytes: usize,
+    measure: Measure,
+    side: u32,
+}
+
+// Whether an area has its right length.
+fn right_length(file: &[u8], n: usize, area: Area) -> bool
     requires { ⌜ Arrays (now file) n ⌝ }
-    ensures { λ r. ⌜ r ≡ eqb bytes (4 * total side m (arrays-of (now (file .entry)) n)) ⌝ }
+    ensures { λ r. ⌜ r ≡ right-length (now (file .entry)) n area ⌝ }
 {
-    bytes == 4 * (memory::total(file, n, m, side) as usize)
+    let measure = area.measure;
+    area.bytes == 4 * (memory::total(file, n, measure, area.side) as usize)
+}
+
+// Whether both areas of a call have theirs.
+fn right_lengths(file: &[u8], n: usize, first: Area, second: Area) -> bool
+    requires { ⌜ Arrays (now file) n ⌝ }
+    ensures { λ r. ⌜ r ≡ (right-length (now (file .entry)) n first && right-length (now (file .entry)) n second) ⌝ }
+{
+    if !right_length(file, n, first) {
+        return false;
+    }
+    right_length(file, n, second)
 }
 
 // ---- runs
@@ -93,10 +112,17 @@ fn run(file: &[u8], c: Counts, part: Part, m: Measure, input: &[u8], output: &mu
     requires { ⌜ Ready (now file) c part ⌝ }
     ensures { λ r. ⌜ Runs (run-of m (now (file .entry)) c part (now (input .entry)) (now (output .entry))) (now (output .entry)) r (now (output .exit)) ⌝ }
 {
-    if !measured(file, c.a, m, kernel::codes::INPUT, input.len()) {
-        return Ran::Refused(kernel::WRONG_MEMORY, 0, 0);
-    }
-    if !measured(file, c.a, m, kernel::codes::OUTPUT, output.len()) {
+    let first = Area {
+        bytes: input.len(),
+        measure: m,
+        side: kernel::codes::INPUT,
+    };
+    let second = Area {
+        bytes: output.len(),
+        measure: m,
+        side: kernel::codes::OUTPUT,
+    };
+    if !right_lengths(file, c.a, first, second) {
         return Ran::Refused(kernel::WRONG_MEMORY, 0, 0);
     }
     started(file, c, part, m, input, output)
@@ -145,11 +171,17 @@ pub fn lay_out_of(file: &[u8], c: Counts, arrays: &[u8], streams: &mut [u8]) -> 
     requires { ⌜ ReadAs (now file) c ⌝ }
     ensures { λ r. ⌜ LayOut (now (file .entry)) (now (arrays .entry)) (now (streams .entry)) r (now (streams .exit)) ⌝ }
 {
-    let side = kernel::codes::INPUT;
-    if !measured(file, c.a, Measure::Cells, side, arrays.len()) {
-        return Done::Refused(kernel::WRONG_MEMORY, 0, 0);
-    }
-    if !measured(file, c.a, Measure::Items, side, streams.len()) {
+    let first = Area {
+        bytes: arrays.len(),
+        measure: Measure::Cells,
+        side: kernel::codes::INPUT,
+    };
+    let second = Area {
+        bytes: streams.len(),
+        measure: Measure::Items,
+        side: kernel::codes::INPUT,
+    };
+    if !right_lengths(file, c.a, first, second) {
         return Done::Refused(kernel::WRONG_MEMORY, 0, 0);
     }
     memory::lay_out(file, c.a, arrays, streams);
@@ -161,11 +193,17 @@ pub fn put_back_of(file: &[u8], c: Counts, streams: &[u8], arrays: &mut [u8]) ->
     requires { ⌜ ReadAs (now file) c ⌝ }
     ensures { λ r. ⌜ PutBack (now (file .entry)) (now (streams .entry)) (now (arrays .entry)) r (now (arrays .exit)) ⌝ }
 {
-    let side = kernel::codes::OUTPUT;
-    if !measured(file, c.a, Measure::Items, side, streams.len()) {
-        return Done::Refused(kernel::WRONG_MEMORY, 0, 0);
-    }
-    if !measured(file, c.a, Measure::Cells, side, arrays.len()) {
+    let first = Area {
+        bytes: streams.len(),
+        measure: Measure::Items,
+        side: kernel::codes::OUTPUT,
+    };
+    let second = Area {
+        bytes: arrays.len(),
+        measure: Measure::Cells,
+        side: kernel::codes::OUTPUT,
+    };
+    if !right_lengths(file, c.a, first, second) {
         return Done::Refused(kernel::WRONG_MEMORY, 0, 0);
     }
     memory::put_back(file, c.a, streams, arrays);

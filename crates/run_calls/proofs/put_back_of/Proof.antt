@@ -1,17 +1,17 @@
 -- `run_calls::put_back_of` meets its contract: a wrong length, or putting back.
-use mathlib.Core.Path.{_≡_, sym, _∙_}
-use mathlib.Core.Bool.{Bool}
+use mathlib.Core.Path.{_≡_, _∙_}
+use mathlib.Core.Bool.{Bool, _&&_}
 use lib.Dec.{eqb}
 use lib.ListN.{length}
 use Prim.Native.Nat.{_*_}
-use borrow.Author.Tests.{not-true, not-false, eqb-true}
+use borrow.Author.Tests.{not-true, not-false}
 use Rattle.kernel.specs.File.{Kernel, output}
 use Rattle.kernel.specs.Memory as Memory
 use Rattle.parts.specs.declared.Measure.the-variants.{Cells, Items}
 use Rattle.parts.specs.Parts.{kernel}
 use Rattle.parts.specs.Arrays.{measure}
 use Rattle.parts.proofs.Parts.{arrays-ready}
-use Rattle.run_calls.proofs.Calls.{wrong-first, wrong-second, both-right, measured-as, put-back-call, refused-move, done-move}
+use Rattle.run_calls.proofs.Calls.{wrong-lengths, right-lengths, both-as, each-long, put-back-call, refused-move, done-move}
 use Rattle.run_calls.proofs.put_back_of.Statement.{statement}
 use Rattle.run_calls.proofs.put_back_of.Tie as tie
 
@@ -19,62 +19,37 @@ use Rattle.run_calls.proofs.put_back_of.Tie as tie
 abbrev K : tie.Start → Kernel
 K s = kernel (s .args .file .now) (s .args .c)
 
--- what the two tests say of the lengths
-module _ (c : tie.After-measured) where
-  abbrev first-start : tie.Start
-  first-start = c .before .before .before .before
+-- what the test says of the lengths
+module _ (c : tie.After-right-lengths) where
+  abbrev start : tie.Start
+  start = c .before .before .before .before
 
-  first-says : {t : Bool} → c .measured .result ≡ t → eqb (length (first-start .args .streams .now)) (4 * Memory.total output (measure Items) (K first-start)) ≡ t
-  first-says e = measured-as (first-start .args .file .now) (first-start .args .c) output (length (first-start .args .streams .now)) Items _ _ (c .measured .ensures) e
+  lengths : {t : Bool} → c .right-lengths .result ≡ t → (eqb (length (start .args .streams .now)) (4 * Memory.total output (measure Items) (K start)) && eqb (length (start .args .arrays .now)) (4 * Memory.total output (measure Cells) (K start))) ≡ t
+  lengths e = both-as (start .args .file .now) (start .args .c) _ _ _ _ (c .right-lengths .ensures) e
 
-module _ (c : tie.After-measured2) where
-  abbrev second-start : tie.Start
-  second-start = c .before .before .before .before .before .before
-
-  second-says : {t : Bool} → c .measured2 .result ≡ t → eqb (length (second-start .args .arrays .now)) (4 * Memory.total output (measure Cells) (K second-start)) ≡ t
-  second-says e = measured-as (second-start .args .file .now) (second-start .args .c) output (length (second-start .args .arrays .now)) Cells _ _ (c .measured2 .ensures) e
-
-measured-requires : tie.Need-measured-requires
-measured-requires c κs = let s = c .before .before .before in arrays-ready (s .args .file .now) (s .args .c) (s .pre)
+right-lengths-requires : tie.Need-right-lengths-requires
+right-lengths-requires c κs = let s = c .before .before .before in arrays-ready (s .args .file .now) (s .args .c) (s .pre)
 
 returns : tie.Need-returns
 returns c =
-    let m = c .before in
-    let s = first-start m in
-    refused-move _ _ 21 0 0 (put-back-call (s .args .file .now) (s .args .c) (s .pre) (s .args .streams .now) (s .args .arrays .now) ∙ wrong-first (Memory.total output (measure Items)) (Memory.total output (measure Cells)) Memory.put-back (K s) (s .args .streams .now) (s .args .arrays .now) (first-says m (not-true _ (c .if1 .taken))))
-
-measured-requires-2 : tie.Need-measured-requires-2
-measured-requires-2 c κs = let s = c .before .before .before .before .before in arrays-ready (s .args .file .now) (s .args .c) (s .pre)
-
-returns-2 : tie.Need-returns-2
-returns-2 c =
-    let m = c .before in
-    let s = second-start m in
-    refused-move _ _ 21 0 0 (put-back-call (s .args .file .now) (s .args .c) (s .pre) (s .args .streams .now) (s .args .arrays .now) ∙ wrong-second (Memory.total output (measure Items)) (Memory.total output (measure Cells)) Memory.put-back (K s) (s .args .streams .now) (s .args .arrays .now) (first-says (m .before .before) (not-false _ (m .before .if1 .left))) (second-says m (not-true _ (c .if2 .taken))))
+    let s = start (c .before) in
+    refused-move _ _ 21 0 0 (put-back-call (s .args .file .now) (s .args .c) (s .pre) (s .args .streams .now) (s .args .arrays .now) ∙ wrong-lengths (Memory.total output (measure Items)) (Memory.total output (measure Cells)) Memory.put-back (K s) (s .args .streams .now) (s .args .arrays .now) (lengths (c .before) (not-true _ (c .if1 .taken))))
 
 put-back-requires : tie.Need-put-back-requires
 put-back-requires c κs =
-    let s = c .before .before .before .before .before .before .before .before in
-    (arrays-ready (s .args .file .now) (s .args .c) (s .pre), record { items = eqb-true _ _ (sym (c .before .before .before .before .measured .ensures) ∙ not-false _ (c .before .before .before .if1 .left)); cells = eqb-true _ _ (sym (c .before .before .measured2 .ensures) ∙ not-false _ (c .before .if2 .left)) })
+    let b = c .before .before in
+    let (first, second) = each-long (start b .args .file .now) (start b .args .c) _ _ _ (b .right-lengths .ensures) (not-false _ (c .before .if1 .left)) in
+    (arrays-ready (start b .args .file .now) (start b .args .c) (start b .pre), record { items = first; cells = second })
 
 same-length : tie.Need-same-length
 same-length c = c .before .before .put-back .kept .1 .1 .1 .0
 
-returns-3 : tie.Need-returns-3
+returns-2 : tie.Need-returns-2
 unfolding Memory.put-back Memory.total kernel measure
-returns-3 c =
-    let m = c .before .before .before .before .before in
-    let s = second-start m in
-    done-move _ _ _ _ (put-back-call (s .args .file .now) (s .args .c) (s .pre) (s .args .streams .now) (s .args .arrays .now) ∙ both-right (Memory.total output (measure Items)) (Memory.total output (measure Cells)) Memory.put-back (K s) (s .args .streams .now) (s .args .arrays .now) (first-says (m .before .before) (not-false _ (m .before .if1 .left))) (second-says m (not-false _ (c .before .before .before .before .if2 .left)))) (c .before .before .put-back .ensures)
+returns-2 c =
+    let b = c .before .before .before .before .before in
+    let s = start b in
+    done-move _ _ _ _ (put-back-call (s .args .file .now) (s .args .c) (s .pre) (s .args .streams .now) (s .args .arrays .now) ∙ right-lengths (Memory.total output (measure Items)) (Memory.total output (measure Cells)) Memory.put-back (K s) (s .args .streams .now) (s .args .arrays .now) (lengths b (not-false _ (c .before .before .before .before .if1 .left)))) (c .before .before .put-back .ensures)
 
 pub put-back-of-spec : {M : Type 1} → statement M
-put-back-of-spec =
-    tie.close
-    (tie.spec
-    measured-requires
-    returns
-    measured-requires-2
-    returns-2
-    put-back-requires
-    same-length
-    returns-3)
+put-back-of-spec = tie.close (tie.spec right-lengths-requires returns put-back-requires same-length returns-2)
