@@ -7,9 +7,10 @@ use mathlib.Core.Option.{Option, none, some}
 use Prim.Native.Nat.{ℕ, zero, suc, _+_, _<_}
 use native.Mathlib.Omega.{arith}
 use native.Mathlib.Nat.{add-zero}
-use lib.ListN.{length, getD, replicate, length-map, length-replicate}
+use lib.ListN.{length, getD, length-map, length-replicate}
 use lib.IntN.{pos, natAbs}
 use Rattle.numbers.specs.Result.{Result}
+use Rattle.numbers.proofs.Rows.{replicate-at}
 use Rattle.numbers.specs.Lists.{sum, Pairwise}
 use Rattle.numbers.specs.Words.{words}
 use Rattle.numbers.proofs.Results.{on-at}
@@ -46,21 +47,6 @@ module _ (K : Kernel) (reads : Reads K) (m : List ℕ) where
 
   -- ---- at the start
 
-  unset-all : (n p : ℕ) → getD {A = Option ℕ} (replicate n none) p none ≡ none
-  unset-all zero p = refl
-  unset-all (suc n) zero = refl
-  unset-all (suc n) (suc p) = unset-all n p
-
-  zero-all : (n q : ℕ) → getD {A = ℕ} (replicate n 0) q 0 ≡ 0
-  zero-all zero q = refl
-  zero-all (suc n) zero = refl
-  zero-all (suc n) (suc q) = zero-all n q
-
-  no-buffers : (n b : ℕ) → getD {A = Option Held} (replicate n none) b none ≡ none
-  no-buffers zero b = refl
-  no-buffers (suc n) zero = refl
-  no-buffers (suc n) (suc b) = no-buffers n b
-
   fresh-position : (q : ℕ) → q < length (K .arrays) → position q (fresh K) ≡ constant (pos 0)
   unfolding position fresh
   fresh-position q h = map-at (λ a. constant (pos 0)) (K .arrays) q nothing (constant (pos 0)) h
@@ -81,13 +67,13 @@ module _ (K : Kernel) (reads : Reads K) (m : List ℕ) where
       buffers = long-fresh .buffers;
     };
     registers = λ p h. refl;
-    places = λ q h. ap (λ f. value f (outside .values)) (fresh-position q h) ∙ value-constant (pos 0) (outside .values) ∙ ap pos (sym (zero-all 8 q));
+    places = λ q h. ap (λ f. value f (outside .values)) (fresh-position q h) ∙ value-constant (pos 0) (outside .values) ∙ ap pos (sym (replicate-at 8 q 0));
     buffers = λ b q f h. absurd (nothing-held b q f h);
     outputs = sym (back-zeros K reads (total output count-of K));
   }
     where
       nothing-held : (b q : ℕ) (f : Form) → holding b (fresh K) ≡ some (held q f) → ⊥
-      nothing-held b q f h = unfold holding fresh in clash (sym (no-buffers (K .buffers) b) ∙ h)
+      nothing-held b q f h = unfold holding fresh in clash (sym (replicate-at (K .buffers) b none) ∙ h)
         where
           clash : {h : Held} → none ≡ some h → ⊥
           clash e = let z : _≡_ {A = ℕ} 0 1 = cc in omega arith

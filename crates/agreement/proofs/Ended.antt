@@ -1,14 +1,13 @@
 -- Demand 1: enough rules and digits, lengths kept, and the bound on a run's steps, by induction over the block.
 use mathlib.Core.Path.{_≡_, refl, sym, ap, _∙_}
 use mathlib.Core.Bool.{Bool, true, false, cond}
-use mathlib.Core.List.{List, [], _∷_}
-use Prim.Native.Nat.{ℕ, zero, suc, _+_, _*_, _/_, _%_, _<_, _≤_}
+use mathlib.Core.List.{List, []}
+use Prim.Native.Nat.{ℕ, zero, suc, _+_, _*_, _≤_}
 use native.Mathlib.Omega.{arith}
 use native.Mathlib.Nat as NatL
-use lib.Dec.{eqb, ltb}
+use lib.Dec.{eqb}
 use lib.ListN.{length, length-set, length-replicate}
 use lib.IntN.{ℤ}
-use borrow.Author.Tests.{ltb-false}
 use Rattle.numbers.specs.Result.{Result, ok, stop, _>>=_, because}
 use Rattle.numbers.proofs.Results.{On, on-ok, on-then, on-any, on-at}
 use Rattle.kernel.specs.File.{Rec, Kernel, output, length-of, count-of, Op, set, copy, work, load, store, read, write}
@@ -19,29 +18,18 @@ use Rattle.kernel.specs.Memory.{total, ran, layout, start, outside, array-ran, 
 use Rattle.kernel.specs.Trees.{tree}
 use Rattle.kernel.specs.Derivation.{beginning}
 use Rattle.kernel.specs.Check.{check-kernel}
-use Rattle.kernel.specs.Answers.{decimal}
 use Rattle.kernel.specs.Guarantees.{Nested}
 use Rattle.kernel.proofs.Readable.{file-reads}
 use Rattle.kernel.proofs.Fronts.{From, read-plain, read-for, read-if, read-else, read-end-for, read-end-if, through}
 use Rattle.kernel.proofs.Trees.{tree-block}
 use Rattle.kernel.proofs.Walking.{same-walk}
+use Rattle.kernel.proofs.Digits.{enough}
 use Rattle.agreement.specs.Ends.{EnoughRules, EnoughDigits, LengthsKept, after, pass-steps, chosen-steps, steps, allowed, FewSteps, Ends}
 
 -- ---- digits
 
-same-digits : (f g n : ℕ) (rest : List ℕ) → n < f → n < g → decimal f n rest ≡ decimal g n rest
-unfolding decimal
-same-digits zero g n rest h k = absurd (omega arith)
-same-digits (suc f) zero n rest h k = absurd (omega arith)
-same-digits (suc f) (suc g) n rest h k = by (ltb n 10) refl (λ l. same-digits f g (n / 10) ((48 + n % 10) ∷ rest) (omega arith) (omega arith))
-  where
-    by : (t : Bool) → ltb n 10 ≡ t → (10 ≤ n → decimal f (n / 10) ((48 + n % 10) ∷ rest) ≡ decimal g (n / 10) ((48 + n % 10) ∷ rest))
-        → _≡_ {A = List ℕ} (elim t [ true ↦ (48 + n) ∷ rest | false ↦ decimal f (n / 10) ((48 + n % 10) ∷ rest) ]) (elim t [ true ↦ (48 + n) ∷ rest | false ↦ decimal g (n / 10) ((48 + n % 10) ∷ rest) ])
-    by true e r = refl
-    by false e r = r (ltb-false n 10 e)
-
 pub enough-digits : EnoughDigits
-enough-digits n f rest h = same-digits f (suc n) n rest h (omega arith)
+enough-digits n f rest h = enough f (suc n) n rest h (omega arith)
 
 -- ---- rules
 

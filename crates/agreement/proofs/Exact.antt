@@ -1,6 +1,6 @@
 -- One rule, exactly: the check's tests answer as the rule's line of the table does, and the line's numbers rise.
-use mathlib.Core.Path.{_≡_, refl, sym, ap}
-use mathlib.Core.Bool.{true, _&&_, true≢false}
+use mathlib.Core.Path.{_≡_, refl, ap}
+use mathlib.Core.Bool.{true, _&&_}
 use mathlib.Core.List.{List, [], _∷_}
 use Prim.Native.Nat.{ℕ}
 use native.Mathlib.Omega.{arith}
@@ -13,6 +13,7 @@ use Rattle.forms.specs.Form.{same, put-at, moved-by, Equal}
 use Rattle.forms.proofs.Same.{same-equal, equal-same}
 use Rattle.forms.proofs.Below.{Turning, below-says, says-below}
 use Rattle.kernel.specs.Numbers.{statements-left, block-open, not-counted}
+use Rattle.kernel.proofs.Walking.{none-open}
 use Rattle.kernel.specs.File.{Rec, form, Kernel, count-of, array, loop-of}
 use Rattle.kernel.specs.Ledger.{held, position, holding, next-index, each, holds-just, same-positions, rows-true}
 use Rattle.kernel.specs.Derivation.{Opened, in-for, in-if, in-else, Place, loops, buffer, Rule, same-rule, read-rule, fill-rule, use-rule, move-rule, write-rule, for-rule, if-rule, else-rule, end-rule, no-rule}
@@ -141,11 +142,6 @@ module _ (K : Kernel) (c : Place) where
   says-taken : AllTaken K c → leb (length (K .array-program)) (c .array) && leb (length (K .stream-program)) (c .stream) ≡ true
   says-taken t = and-true (le-leb (length (K .array-program)) (c .array) (t .array-program)) (le-leb (length (K .stream-program)) (c .stream) (t .stream-program))
 
-  no-block-says : (os : List Opened) → no-block os ≡ true → os ≡ []
-  unfolding no-block
-  no-block-says [] h = refl
-  no-block-says (o ∷ os) h = absurd (true≢false (sym h))
-
   says-no-block : (os : List Opened) → os ≡ [] → no-block os ≡ true
   unfolding no-block
   says-no-block os e = ap no-block e
@@ -154,5 +150,5 @@ module _ (K : Kernel) (c : Place) where
   unfolding last-line last-test
   last-answers =
       tests (leb (length (K .array-program)) (c .array) && leb (length (K .stream-program)) (c .stream)) _ taken-says says-taken λ t.
-      tests (no-block (c .opened)) _ (no-block-says (c .opened)) (says-no-block (c .opened)) λ b.
+      tests (no-block (c .opened)) _ (none-open (c .opened)) (says-no-block (c .opened)) λ b.
       tests-last (all-counted K (c .ledger)) (all-counted-says K c) (says-all-counted K c)

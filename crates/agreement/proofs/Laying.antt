@@ -1,16 +1,14 @@
 -- Laying out and putting back tie the two memories: each item of a stream stands for one cell of its array, and no two for the same.
 use mathlib.Core.Path.{_≡_, refl, sym, ap, subst, _∙_}
 use mathlib.Core.Logic.{_≢_}
-use mathlib.Core.Bool.{Bool, true, false, cond}
 use mathlib.Core.List.{List, [], _∷_, _++_, map}
 use Prim.Native.Nat.{ℕ, zero, suc, _+_, _<_, _≤_}
 use native.Mathlib.Omega.{arith}
-use lib.Dec.{eqb}
 use lib.ListN.{length, getD, take, set, replicate, List·getD-append}
 use lib.Seq.{getD-append-add, set-comm, set-set, set-getD}
 use lib.IntN.{pos, natAbs}
-use borrow.Author.Tests.{eq-eqb, eqb-true}
 use Rattle.numbers.specs.Lists.{sum}
+use Rattle.numbers.proofs.Rows.{replicate-at}
 use Rattle.kernel.specs.File.{Rec, nothing, Kernel, input, output, side-of, only, length-of, count-of, index, array}
 use Rattle.kernel.proofs.Sides.{only-on, on-only}
 use Rattle.kernel.specs.Machine.{cell}
@@ -106,14 +104,9 @@ placed-set (v ∷ vs) m zero w (not-again {x} {l} f r) h g =
     placed-other l vs m x w f ∙ sym (set-set (placed l vs m) x v w) ∙ ap (λ n. set n x w) (sym (placed-other l vs m x v f))
 placed-set (v ∷ vs) m (suc s) w (not-again {x} {l} f r) h g = placed-set vs (set m x v) s w r (omega arith) (omega arith)
 
--- zeros at places of a row of zeros
-zero-at : (n c : ℕ) → getD {A = ℕ} (replicate n 0) c 0 ≡ 0
-zero-at zero c = refl
-zero-at (suc n) zero = refl
-zero-at (suc n) (suc c) = zero-at n c
-
+-- zeros put into a row of zeros
 set-zero : (n c : ℕ) → set {A = ℕ} (replicate n 0) c 0 ≡ replicate n 0
-set-zero n c = ap (λ z. set {A = ℕ} (replicate n 0) c z) (sym (zero-at n c)) ∙ set-getD (replicate n 0) c 0
+set-zero n c = ap (λ z. set {A = ℕ} (replicate n 0) c z) (sym (replicate-at n c 0)) ∙ set-getD (replicate n 0) c 0
 
 placed-zeros : (cs : List ℕ) (k n : ℕ) → placed cs (replicate k 0) (replicate n 0) ≡ replicate n 0
 unfolding placed

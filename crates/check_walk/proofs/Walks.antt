@@ -1,9 +1,9 @@
 -- How the walk goes on: a rule that is taken, one stretch after another, and where a block stops.
 use Prim.Native.Nat.{ℕ, _≤_, _<_}
 use mathlib.Core.Path.{_≡_, refl, sym, ap, subst, _∙_}
-use mathlib.Core.Bool.{Bool, true, false, cond, _&&_, false≢true}
+use mathlib.Core.Bool.{Bool, true, false, cond, _&&_}
 use mathlib.Core.Logic.{inl, inr}
-use mathlib.Core.List.{List, [], _∷_}
+use mathlib.Core.List.{List, []}
 use native.Mathlib.Omega.{arith}
 use lib.Dec.{leb}
 use lib.ListN.{length}
@@ -14,7 +14,7 @@ use Rattle.kernel.specs.Derivation as S
 use Rattle.kernel.specs.Derivation.{Opened, Place}
 use Rattle.kernel.specs.Check as Check
 use Rattle.kernel.specs.Check.{refused-at, no-block, finish, walk-on}
-use Rattle.kernel.proofs.Walking.{walk-over, walk-take}
+use Rattle.kernel.proofs.Walking.{walk-over, walk-take, none-open}
 use Rattle.parts.specs.declared.Counts.{Counts}
 use Rattle.parts.specs.Parts.{kernel}
 use Rattle.check_take.specs.declared.Taken.{Taken}
@@ -98,11 +98,6 @@ module _ (file : List ℕ) (c : Counts) where
       over-block k l o e = refused-goes 18 (λ z. omega (arith, z)) e (over-is ∙ finish-is true true false (le-leb (length (K .array-program)) (w .at .array) (omega (arith, k, array-count file c))) (le-leb (length (K .stream-program)) (w .at .stream) (omega (arith, l, stream-count file c))) o)
 
     -- an else or an end where no block is open
-    none-open : (os : List Opened) → no-block os ≡ true → os ≡ []
-    unfolding no-block
-    none-open [] e = refl
-    none-open (o ∷ os) e = absurd (false≢true e)
-
     stray-either : (t : Bool) → Check.at {A = Place} (at-place [] w) (need 10 t >>= λ u. stop 10) ≡ stop (refused-at (at-place [] w) 10)
     unfolding Check.at because need _>>=_
     stray-either true = refl

@@ -10,3 +10,4 @@ pub mod Fronts
 pub mod Trees
 pub mod Fitting
 pub mod Walking
+pub mod Digits

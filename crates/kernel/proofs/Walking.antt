@@ -13,7 +13,13 @@ use Rattle.numbers.proofs.Results.{On, on-ok, on-stop, on-then, on-because, on-
 use Rattle.kernel.specs.File.{Rec, Kernel}
 use Rattle.kernel.specs.Ledger.{Ledger}
 use Rattle.kernel.specs.Derivation.{Opened, in-for, in-if, in-else, Place, beginning, next-rule, next-array, next-stream, went, row-count, Rule, same-rule, read-rule, fill-rule, use-rule, move-rule, write-rule, for-rule, if-rule, else-rule, end-rule, no-rule, rule}
-use Rattle.kernel.specs.Check.{at-else, at-end, effect, follow, Refusal, refused-at, at, take-rule, finish, walk, walk-on, check-kernel}
+use Rattle.kernel.specs.Check.{at-else, at-end, effect, follow, Refusal, refused-at, at, take-rule, no-block, finish, walk, walk-on, check-kernel}
+
+-- the test that no block is open says so
+pub none-open : (os : List Opened) → no-block os ≡ true → os ≡ []
+unfolding no-block
+none-open [] e = refl
+none-open (o ∷ os) e = absurd (false≢true e)
 
 -- a rule that is taken goes further on: past itself and at most its hold rows, and past at most one statement of each program
 pub record GoesFurther (K : Kernel) (c d : Place) : Type 0 where

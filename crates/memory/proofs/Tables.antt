@@ -1,5 +1,5 @@
 -- A table of eight that is filled one entry after another.
-use Prim.Native.Nat.{ℕ, zero, suc, _+_, _<_, _≤_}
+use Prim.Native.Nat.{ℕ, _+_, _<_, _≤_}
 use mathlib.Core.Path.{_≡_, refl, sym, ap, _∙_}
 use mathlib.Core.Bool.{cond}
 use mathlib.Core.List.{List}
@@ -9,6 +9,7 @@ use borrow.Author.Tests.{lt-ltb, le-ltb}
 use lib.ListN.{length, getD, set, replicate, length-set}
 use lib.Seq.{getD-set-same, getD-set-other}
 use lib.Dec.{ltb}
+use Rattle.numbers.proofs.Rows.{replicate-at}
 
 -- t has f q at each q below i, and 0 elsewhere
 pub record Filled (f : ℕ → ℕ) (i : ℕ) (t : List ℕ) : Type 0 where
@@ -23,12 +24,7 @@ module _ (f : ℕ → ℕ) where
   entry-past q i h = ap (λ t. cond t (f q) 0) (le-ltb q i h)
 
   pub filled-none : Filled f 0 (replicate 8 0)
-  filled-none = record { long = refl; has = λ q. zeros-at 8 q ∙ sym (entry-past q 0 (omega arith)) }
-    where
-      zeros-at : (n q : ℕ) → _≡_ {A = ℕ} (getD (replicate n 0) q 0) 0
-      zeros-at zero q = refl
-      zeros-at (suc n) zero = refl
-      zeros-at (suc n) (suc q) = zeros-at n q
+  filled-none = record { long = refl; has = λ q. replicate-at 8 q 0 ∙ sym (entry-past q 0 (omega arith)) }
 
   pub filled-more : (i v : ℕ) (t : List ℕ) → Filled f i t → i < 8 → v ≡ f i → Filled f (i + 1) (set t i v)
   filled-more i v t h l e = record { long = length-set t i v ∙ h .long; has = λ q. by q (decLt q i) (decLt i q) }

@@ -114,6 +114,9 @@ test-not-lt (pos a) (negsuc b) e = record { le = tt }
 test-not-lt (negsuc a) (pos b) e = record { le = no-is e }
 test-not-lt (negsuc a) (negsuc b) e = record { le = le→leb a b (nltb→le b a (no-is e)) }
 
+pub not-negative : (n : ℕ) → ltZ (pos n) (pos 0) ≡ true → ⊥
+not-negative n e = let l : n < 0 = ltb→lt n 0 (yes-is e) in omega arith
+
 pub test-le : (a b : ℤ) → leZ a b ≡ true → a ≤ℤ b
 test-le a b e = record { le = yes-is e }
 

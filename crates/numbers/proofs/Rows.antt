@@ -1,10 +1,10 @@
--- Two rows tested against each other, cell by cell: the test of the whole is that of the cells from i on.
+-- Rows: what stands at a place; and two of them tested against each other, cell by cell, where the test of the whole is that of the cells from i on.
 use Prim.Native.Nat.{ℕ, zero, suc, _+_, _≤_, _<_}
 use mathlib.Core.Path.{_≡_, refl, ap, ap₂, _∙_}
 use mathlib.Core.Bool.{Bool, true, false, _&&_}
 use mathlib.Core.List.{List, [], _∷_}
 use native.Mathlib.Omega.{arith}
-use lib.ListN.{length, getD, drop, drop-of-length-le}
+use lib.ListN.{length, getD, drop, replicate, drop-of-length-le}
 use Rattle.numbers.specs.Lists.{alike}
 
 drop-from : {A : Type 0} (xs : List A) (p : ℕ) (d : A) → p < length xs → drop p xs ≡ getD xs p d ∷ drop (suc p) xs
@@ -17,6 +17,12 @@ pub drop-there : {A : Type 0} (xs : List A) (p : ℕ) (d : A) → p < length xs 
 drop-there xs p d h =
     let e : suc p ≡ p + 1 = omega arith in
     drop-from xs p d h ∙ ap (λ n. getD xs p d ∷ drop n xs) e
+
+-- a row of one value has it everywhere
+pub replicate-at : {A : Type 0} (n i : ℕ) (x : A) → getD (replicate n x) i x ≡ x
+replicate-at zero i x = refl
+replicate-at (suc n) zero x = refl
+replicate-at (suc n) (suc i) x = replicate-at n i x
 
 module _ {A B : Type 0} (t : A → B → Bool) (xs : List A) (ys : List B) where
   abbrev pub From : ℕ → Type 0

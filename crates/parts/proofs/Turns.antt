@@ -7,12 +7,11 @@ use native.Mathlib.Nat as NatL
 use lib.Dec.{T, lit<}
 use lib.IntN.{ℤ, pos, negsuc, negℤ, natAbs, _-ℤ_, _*ℤ_}
 use lib.Signed.{quotZ, ltZ, nonNeg}
-use borrow.Author.Tests.{ltb-true}
 use mir.Syntax.{w64}
 use mir.Val.{Fits, SFits, toZ, ofZ}
 use mir.Facts.{toZ-ofZ}
 use Rattle.numbers.specs.Words.{equal}
-use Rattle.numbers.proofs.Order.{abs-mul}
+use Rattle.numbers.proofs.Order.{abs-mul, not-negative}
 use Rattle.numbers.proofs.Tests.{eq-equal, equal-eq}
 use Rattle.numbers.specs.Bounds.{Small}
 use Rattle.numbers.proofs.Signs.{small-sub, small-quot, back, fits, as-it-is, abs-quot}
@@ -39,15 +38,12 @@ whole-zero : (d : ℤ) → whole-steps d (pos 0) ≡ 0
 unfolding quotients
 whole-zero d = whole-by d (pos 0) ∙ ap (quotients d (pos 0)) (by-zero d) ∙ either-way (equal (pos 0 *ℤ pos 0) d)
 
-never : (n : ℕ) → ltZ (pos n) (pos 0) ≡ true → ⊥
-never n h = let l : n < 0 = ltb-true n 0 h in omega arith
-
 never-not : (n : ℕ) → ltZ (negsuc n) (pos 0) ≡ false → ⊥
 never-not n h = let z : _≡_ {A = ℕ} 0 1 = cc in omega arith
 
 quotient-negative : (d s z : ℤ) → ltZ z (pos 0) ≡ true → quotients d s z ≡ 0
 unfolding quotients
-quotient-negative d s (pos n) h = absurd (never n h)
+quotient-negative d s (pos n) h = absurd (not-negative n h)
 quotient-negative d s (negsuc n) h = refl
 
 quotient-broken : (d s z : ℤ) → (z *ℤ s ≡ d → ⊥) → quotients d s z ≡ 0

@@ -40,17 +40,20 @@ module _ {A : Type 0} (from to : Kernel → ℕ) (makes : Kernel → List ℕ �
   unfolding on-kernel need _>>=_
   right-lengths e = ap (λ t. need (fault 21 0 0) t >>= λ _. ok (makes K (words first))) e
 
--- as the code tests them
-module _ (file : List ℕ) (c : Counts) (a b : Area) where
-  pub both-as : (r t : Bool) → r ≡ (right-length file (c .a) a && right-length file (c .a) b) → r ≡ t
+-- as the code tests them, of areas that it has made
+module _ (file : List ℕ) (c : Counts) {a b x y : Area} (e : x ≡ a) (f : y ≡ b) (r : Bool) (g : r ≡ (right-length file (c .a) x && right-length file (c .a) y)) where
+  tested : r ≡ (right-length file (c .a) a && right-length file (c .a) b)
+  tested = g ∙ (λ i. right-length file (c .a) (e i) && right-length file (c .a) (f i))
+
+  pub both-as : (t : Bool) → r ≡ t
       → (eqb (a .bytes) (4 * Memory.total (a .side) (measure (a .measure)) (kernel file c)) && eqb (b .bytes) (4 * Memory.total (b .side) (measure (b .measure)) (kernel file c))) ≡ t
   unfolding Memory.total kernel
-  both-as r t e z = sym e ∙ z
+  both-as t z = sym tested ∙ z
 
-  pub each-long : (r : Bool) → r ≡ (right-length file (c .a) a && right-length file (c .a) b) → r ≡ true
+  pub each-long : r ≡ true
       → (a .bytes ≡ 4 * total (a .side) (a .measure) (arrays-of file (c .a))) × (b .bytes ≡ 4 * total (b .side) (b .measure) (arrays-of file (c .a)))
-  each-long r e z =
-      let so = sym e ∙ z in
+  each-long z =
+      let so = sym tested ∙ z in
       (eqb-true _ _ (and-left (right-length file (c .a) a) (right-length file (c .a) b) so), eqb-true _ _ (and-right (right-length file (c .a) a) (right-length file (c .a) b) so))
 
 -- ---- promises

@@ -1,5 +1,5 @@
 -- A run that was started: what the machine's answer and the places come to.
-use Prim.Native.Nat.{ℕ, zero, suc, _+_, _≤_}
+use Prim.Native.Nat.{ℕ, _+_, _≤_}
 use mathlib.Core.Path.{_≡_, refl, sym, ap, subst, _∙_}
 use mathlib.Core.Bool.{Bool, true, false, cond}
 use mathlib.Core.List.{List}
@@ -8,6 +8,7 @@ use lib.Dec.{eqb}
 use lib.ListN.{getD, replicate}
 use borrow.Author.Tests.{eq-eqb, ne-eqb}
 use Rattle.numbers.specs.Result.{ok, stop}
+use Rattle.numbers.proofs.Rows.{replicate-at}
 use Rattle.kernel.specs.File.{Rec, Kernel, input, output}
 use Rattle.kernel.specs.Blocks.{Block}
 use Rattle.kernel.specs.Machine.{Layout, State, Counters, stuck, run}
@@ -31,16 +32,11 @@ left-placed e reason n s h = by (eqb reason 0) h
     by true h = h .leaves
     by false h = h .leaves
 
-none-moved : (n q : ℕ) → _≡_ {A = ℕ} (getD (replicate n 0) q 0) 0
-none-moved zero q = refl
-none-moved (suc n) zero = refl
-none-moved (suc n) (suc q) = none-moved n q
-
 module _ (e : Layout) (arrays : List Rec) (m : Measure) (reason at : ℕ) (s : State) (t : Block) (c : Counters) (rs ws : List ℕ)
     (sizes : (q : ℕ) → e .size q ≡ size m arrays q)
     (r : stopped reason at s ≡ run e t c (state rs (replicate 8 0) ws)) where
   placed : Placed e s
-  placed = left-placed e reason at s (subst (Leaves (Placed e)) (sym r) (run-placed e t c (state rs (replicate 8 0) ws) (record { most = λ q. omega (arith, none-moved 8 q) })))
+  placed = left-placed e reason at s (subst (Leaves (Placed e)) (sym r) (run-placed e t c (state rs (replicate 8 0) ws) (record { most = λ q. omega (arith, replicate-at {A = ℕ} 8 q 0) })))
 
   pub items-few : (side : ℕ) → moved side 0 arrays s ≤ total side m arrays
   items-few side = moved-most side (measure m) 0 arrays s (λ k. let z : 0 + k ≡ k = omega arith in subst (λ p. getD (s .places) p 0 ≤ size m arrays k) (sym z) (subst (λ n. getD (s .places) k 0 ≤ n) (sizes k) (placed .most k)))

@@ -40,6 +40,18 @@ struct Area {
     side: u32,
 }
 
+impl Area {
+    fn of(bytes: usize, measure: Measure, side: u32) -> Self
+        ensures { λ r. ⌜ r ≡ record { bytes = bytes; measure = measure; side = side } ⌝ }
+    {
+        Area {
+            bytes,
+            measure,
+            side,
+        }
+    }
+}
+
 // Whether an area has its right length.
 fn right_length(file: &[u8], n: usize, area: Area) -> bool
     requires { ⌜ Arrays (now file) n ⌝ }
@@ -112,16 +124,8 @@ fn run(file: &[u8], c: Counts, part: Part, m: Measure, input: &[u8], output: &mu
     requires { ⌜ Ready (now file) c part ⌝ }
     ensures { λ r. ⌜ Runs (run-of m (now (file .entry)) c part (now (input .entry)) (now (output .entry))) (now (output .entry)) r (now (output .exit)) ⌝ }
 {
-    let first = Area {
-        bytes: input.len(),
-        measure: m,
-        side: kernel::codes::INPUT,
-    };
-    let second = Area {
-        bytes: output.len(),
-        measure: m,
-        side: kernel::codes::OUTPUT,
-    };
+    let first = Area::of(input.len(), m, kernel::codes::INPUT);
+    let second = Area::of(output.len(), m, kernel::codes::OUTPUT);
     if !right_lengths(file, c.a, first, second) {
         return Ran::Refused(kernel::WRONG_MEMORY, 0, 0);
     }
@@ -171,16 +175,8 @@ pub fn lay_out_of(file: &[u8], c: Counts, arrays: &[u8], streams: &mut [u8]) -> 
     requires { ⌜ ReadAs (now file) c ⌝ }
     ensures { λ r. ⌜ LayOut (now (file .entry)) (now (arrays .entry)) (now (streams .entry)) r (now (streams .exit)) ⌝ }
 {
-    let first = Area {
-        bytes: arrays.len(),
-        measure: Measure::Cells,
-        side: kernel::codes::INPUT,
-    };
-    let second = Area {
-        bytes: streams.len(),
-        measure: Measure::Items,
-        side: kernel::codes::INPUT,
-    };
+    let first = Area::of(arrays.len(), Measure::Cells, kernel::codes::INPUT);
+    let second = Area::of(streams.len(), Measure::Items, kernel::codes::INPUT);
     if !right_lengths(file, c.a, first, second) {
         return Done::Refused(kernel::WRONG_MEMORY, 0, 0);
     }
@@ -193,16 +189,8 @@ pub fn put_back_of(file: &[u8], c: Counts, streams: &[u8], arrays: &mut [u8]) ->
     requires { ⌜ ReadAs (now file) c ⌝ }
     ensures { λ r. ⌜ PutBack (now (file .entry)) (now (streams .entry)) (now (arrays .entry)) r (now (arrays .exit)) ⌝ }
 {
-    let first = Area {
-        bytes: streams.len(),
-        measure: Measure::Items,
-        side: kernel::codes::OUTPUT,
-    };
-    let second = Area {
-        bytes: arrays.len(),
-        measure: Measure::Cells,
-        side: kernel::codes::OUTPUT,
-    };
+    let first = Area::of(streams.len(), Measure::Items, kernel::codes::OUTPUT);
+    let second = Area::of(arrays.len(), Measure::Cells, kernel::codes::OUTPUT);
     if !right_lengths(file, c.a, first, second) {
         return Done::Refused(kernel::WRONG_MEMORY, 0, 0);
     }

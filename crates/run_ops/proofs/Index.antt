@@ -7,9 +7,10 @@ use native.Mathlib.Omega.{arith}
 use lib.Dec.{T}
 use lib.IntN.{ℤ, pos, negsuc, natAbs}
 use lib.Signed.{ltZ, nonNeg}
-use borrow.Author.Tests.{le-ltb, ltb-true}
+use borrow.Author.Tests.{le-ltb}
 use Rattle.numbers.specs.Result.{ok, stop, need}
 use Rattle.numbers.specs.Words.{inside}
+use Rattle.numbers.proofs.Order.{not-negative}
 use Rattle.numbers.proofs.Signs.{back, as-it-is}
 use Rattle.numbers.proofs.Tests.{inside-index, index-inside}
 use Rattle.forms.specs.Form.{value}
@@ -22,12 +23,9 @@ use Rattle.run_loops.specs.View.{counters, CountersSmall}
 
 -- ---- the tests
 
-not-below : (i : ℕ) → ltZ (pos i) (pos 0) ≡ true → ⊥
-not-below i h = let l : i < 0 = ltb-true i 0 h in omega arith
-
 pub below : (n : ℕ) (z : ℤ) → ltZ z (pos 0) ≡ true → inside n z ≡ false
 unfolding inside
-below n (pos i) h = absurd (not-below i h)
+below n (pos i) h = absurd (not-negative i h)
 below n (negsuc i) h = refl
 
 pub past : (n : ℕ) (z : ℤ) → ltZ z (pos n) ≡ false → inside n z ≡ false

@@ -4,6 +4,7 @@ use mathlib.Core.Bool.{Bool, _&&_}
 use lib.Dec.{eqb}
 use lib.ListN.{length}
 use Prim.Native.Nat.{_*_}
+use borrow.Author.Needs.{needs}
 use borrow.Author.Tests.{not-true, not-false}
 use Rattle.kernel.specs.File.{Kernel, input}
 use Rattle.kernel.specs.Memory as Memory
@@ -22,13 +23,19 @@ K s = kernel (s .args .file .now) (s .args .c)
 -- what the test says of the lengths
 module _ (c : tie.After-right-lengths) where
   abbrev start : tie.Start
-  start = c .before .before .before .before
+  start = c .before .before .before .before .before .before
 
   lengths : {t : Bool} → c .right-lengths .result ≡ t → (eqb (length (start .args .arrays .now)) (4 * Memory.total input (measure Cells) (K start)) && eqb (length (start .args .streams .now)) (4 * Memory.total input (measure Items) (K start))) ≡ t
-  lengths e = both-as (start .args .file .now) (start .args .c) _ _ _ _ (c .right-lengths .ensures) e
+  lengths e = both-as (start .args .file .now) (start .args .c) (c .before .before .of .ensures) (c .before .of2 .ensures) _ (c .right-lengths .ensures) _ e
+
+of-requires : tie.Need-of-requires
+of-requires c κs = search needs
+
+of-requires-2 : tie.Need-of-requires-2
+of-requires-2 c κs = search needs
 
 right-lengths-requires : tie.Need-right-lengths-requires
-right-lengths-requires c κs = let s = c .before .before .before in arrays-ready (s .args .file .now) (s .args .c) (s .pre)
+right-lengths-requires c κs = let s = c .before .before .before .before .before in arrays-ready (s .args .file .now) (s .args .c) (s .pre)
 
 returns : tie.Need-returns
 returns c =
@@ -38,7 +45,7 @@ returns c =
 lay-out-requires : tie.Need-lay-out-requires
 lay-out-requires c κs =
     let b = c .before .before in
-    let (first, second) = each-long (start b .args .file .now) (start b .args .c) _ _ _ (b .right-lengths .ensures) (not-false _ (c .before .if1 .left)) in
+    let (first, second) = each-long (start b .args .file .now) (start b .args .c) (b .before .before .of .ensures) (b .before .of2 .ensures) _ (b .right-lengths .ensures) (not-false _ (c .before .if1 .left)) in
     (arrays-ready (start b .args .file .now) (start b .args .c) (start b .pre), second)
 
 same-length : tie.Need-same-length
@@ -52,4 +59,4 @@ returns-2 c =
     done-move _ _ _ _ (lay-out-call (s .args .file .now) (s .args .c) (s .pre) (s .args .arrays .now) (s .args .streams .now) ∙ right-lengths (Memory.total input (measure Cells)) (Memory.total input (measure Items)) Memory.laid-out (K s) (s .args .arrays .now) (s .args .streams .now) (lengths b (not-false _ (c .before .before .before .before .if1 .left)))) (c .before .before .lay-out .ensures)
 
 pub lay-out-of-spec : {M : Type 1} → statement M
-lay-out-of-spec = tie.close (tie.spec right-lengths-requires returns lay-out-requires same-length returns-2)
+lay-out-of-spec = tie.close (tie.spec of-requires of-requires-2 right-lengths-requires returns lay-out-requires same-length returns-2)

@@ -4,6 +4,7 @@ use mathlib.Core.Bool.{Bool, _&&_}
 use lib.Dec.{eqb}
 use lib.ListN.{length}
 use Prim.Native.Nat.{_*_}
+use borrow.Author.Needs.{needs}
 use borrow.Author.Tests.{not-true, not-false}
 use Rattle.kernel.specs.File.{Kernel, output}
 use Rattle.kernel.specs.Memory as Memory
@@ -22,13 +23,19 @@ K s = kernel (s .args .file .now) (s .args .c)
 -- what the test says of the lengths
 module _ (c : tie.After-right-lengths) where
   abbrev start : tie.Start
-  start = c .before .before .before .before
+  start = c .before .before .before .before .before .before
 
   lengths : {t : Bool} → c .right-lengths .result ≡ t → (eqb (length (start .args .streams .now)) (4 * Memory.total output (measure Items) (K start)) && eqb (length (start .args .arrays .now)) (4 * Memory.total output (measure Cells) (K start))) ≡ t
-  lengths e = both-as (start .args .file .now) (start .args .c) _ _ _ _ (c .right-lengths .ensures) e
+  lengths e = both-as (start .args .file .now) (start .args .c) (c .before .before .of .ensures) (c .before .of2 .ensures) _ (c .right-lengths .ensures) _ e
+
+of-requires : tie.Need-of-requires
+of-requires c κs = search needs
+
+of-requires-2 : tie.Need-of-requires-2
+of-requires-2 c κs = search needs
 
 right-lengths-requires : tie.Need-right-lengths-requires
-right-lengths-requires c κs = let s = c .before .before .before in arrays-ready (s .args .file .now) (s .args .c) (s .pre)
+right-lengths-requires c κs = let s = c .before .before .before .before .before in arrays-ready (s .args .file .now) (s .args .c) (s .pre)
 
 returns : tie.Need-returns
 returns c =
@@ -38,7 +45,7 @@ returns c =
 put-back-requires : tie.Need-put-back-requires
 put-back-requires c κs =
     let b = c .before .before in
-    let (first, second) = each-long (start b .args .file .now) (start b .args .c) _ _ _ (b .right-lengths .ensures) (not-false _ (c .before .if1 .left)) in
+    let (first, second) = each-long (start b .args .file .now) (start b .args .c) (b .before .before .of .ensures) (b .before .of2 .ensures) _ (b .right-lengths .ensures) (not-false _ (c .before .if1 .left)) in
     (arrays-ready (start b .args .file .now) (start b .args .c) (start b .pre), record { items = first; cells = second })
 
 same-length : tie.Need-same-length
@@ -52,4 +59,4 @@ returns-2 c =
     done-move _ _ _ _ (put-back-call (s .args .file .now) (s .args .c) (s .pre) (s .args .streams .now) (s .args .arrays .now) ∙ right-lengths (Memory.total output (measure Items)) (Memory.total output (measure Cells)) Memory.put-back (K s) (s .args .streams .now) (s .args .arrays .now) (lengths b (not-false _ (c .before .before .before .before .if1 .left)))) (c .before .before .put-back .ensures)
 
 pub put-back-of-spec : {M : Type 1} → statement M
-put-back-of-spec = tie.close (tie.spec right-lengths-requires returns put-back-requires same-length returns-2)
+put-back-of-spec = tie.close (tie.spec of-requires of-requires-2 right-lengths-requires returns put-back-requires same-length returns-2)

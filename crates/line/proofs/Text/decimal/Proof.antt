@@ -5,7 +5,8 @@ use mathlib.Core.List.{List}
 use native.Mathlib.Omega.{arith}
 use Rattle.kernel.specs.Answers.{decimal}
 use Rattle.line.specs.View.{Shows}
-use Rattle.line.proofs.Digits.{Room, room-begins, room-less, digit, next-digit}
+use Rattle.kernel.proofs.Digits.{digit}
+use Rattle.line.proofs.Digits.{Room, room-begins, room-less, next-digit}
 use Rattle.line.proofs.Text.decimal.Statement.{statement}
 use Rattle.line.proofs.Text.decimal.Tie as tie
 
