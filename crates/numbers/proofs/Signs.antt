@@ -109,16 +109,23 @@ pub signed-high : {w : ℕ} → 2 ^ 31 ≤ w → signed w ≡ negsuc (2 ^ 32 - s
 unfolding signed
 signed-high {w} h = ap (λ (t : Bool). cond t (pos w) (negsuc (2 ^ 32 - suc w))) (le-ltb w (2 ^ 31) h)
 
--- the same, as a difference
-pub signed-less : {w : ℕ} → 2 ^ 31 ≤ w → w < 2 ^ 32 → signed w ≡ pos w -ℤ pos (2 ^ 32)
-signed-less {w} h k = signed-high h ∙ sym (ap (λ (t : Bool). cond t (negsuc (2 ^ 32 - suc w)) (pos (w - 2 ^ 32))) (lt-ltb w (2 ^ 32) k))
-
 pub halves : (w : ℕ) → (w < 2 ^ 31) ⊎ (2 ^ 31 ≤ w)
 halves w = by (ltb w (2 ^ 31)) refl
   where
     by : (t : Bool) → ltb w (2 ^ 31) ≡ t → (w < 2 ^ 31) ⊎ (2 ^ 31 ≤ w)
     by true e = inl (ltb-true w (2 ^ 31) e)
     by false e = inr (ltb-false w (2 ^ 31) e)
+
+-- either as a difference: v is the word 2³¹ on, wrapped
+pub signed-less : {w v : ℕ} → w < 2 ^ 32 → v ≡ (w + 2 ^ 31) % 2 ^ 32 → pos v -ℤ pos (2 ^ 31) ≡ signed w
+signed-less {w} {v} k e = by (halves w)
+  where
+    difference : Bool → ℤ
+    difference t = cond t (negsuc (2 ^ 31 - suc v)) (pos (v - 2 ^ 31))
+
+    by : (w < 2 ^ 31) ⊎ (2 ^ 31 ≤ w) → pos v -ℤ pos (2 ^ 31) ≡ signed w
+    by (inl h) = let f : v - 2 ^ 31 ≡ w = omega arith in ap difference (le-ltb v (2 ^ 31) (omega arith)) ∙ ap pos f ∙ sym (signed-low h)
+    by (inr h) = let f : 2 ^ 31 - suc v ≡ 2 ^ 32 - suc w = omega arith in ap difference (lt-ltb v (2 ^ 31) (omega arith)) ∙ ap negsuc f ∙ sym (signed-high h)
 
 pub small-signed : {w : ℕ} → w < 2 ^ 32 → Small (2 ^ 31) (signed w)
 small-signed {w} k = by (halves w)

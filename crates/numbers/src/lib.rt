@@ -58,15 +58,11 @@ pub fn entry(table: &[u32; 8], q: usize) -> u32
 
 // ---- words and numbers
 
-// The signed number of a word.
+// The signed number of a word. A sum that wraps and a difference take no branch.
 pub fn signed(w: u32) -> i64
     ensures { λ r. ⌜ r ≡ Words.signed w ⌝ }
 {
-    if w < 0x8000_0000 {
-        w as i64
-    } else {
-        (w as i64) - 0x1_0000_0000
-    }
+    (std::num::wrapping_add_u32(w, 0x8000_0000) as i64) - 0x8000_0000
 }
 
 // The low 32 bits of a number.
