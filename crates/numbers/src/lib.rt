@@ -14,7 +14,7 @@ fn wide(x: u8) -> u32
 }
 
 // Word i of an area that has it.
-fn whole_word(area: &[u8], i: usize) -> u32
+pub fn whole_word(area: &[u8], i: usize) -> u32
     requires { ⌜ i * 4 + 4 ≤ length (now area) ⌝ }
     ensures { λ r. ⌜ r ≡ Areas.word (now (area .entry)) i ⌝ }
 {

@@ -86,14 +86,14 @@ pub fn record_at(file: &[u8], place: usize) -> Rec
     ensures { λ r. ⌜ rec r ≡ record-at (now (file .entry)) place ⌝ }
 {
     Rec {
-        code: numbers::word(file, place),
-        p: numbers::word(file, place + 1),
-        q: numbers::word(file, place + 2),
-        k: numbers::word(file, place + 3),
-        x0: numbers::word(file, place + 4),
-        x1: numbers::word(file, place + 5),
-        x2: numbers::word(file, place + 6),
-        x3: numbers::word(file, place + 7),
+        code: numbers::whole_word(file, place),
+        p: numbers::whole_word(file, place + 1),
+        q: numbers::whole_word(file, place + 2),
+        k: numbers::whole_word(file, place + 3),
+        x0: numbers::whole_word(file, place + 4),
+        x1: numbers::whole_word(file, place + 5),
+        x2: numbers::whole_word(file, place + 6),
+        x3: numbers::whole_word(file, place + 7),
     }
 }
 
@@ -122,7 +122,7 @@ pub fn code_in(file: &[u8], part: Part, i: usize) -> u32
     requires { ⌜ Lies 1024 (now file) part × (i < part .count) ⌝ }
     ensures { λ r. ⌜ r ≡ getD (records-in (now (file .entry)) part) i File.nothing .code ⌝ }
 {
-    numbers::word(file, part.at + 8 * i)
+    numbers::whole_word(file, part.at + 8 * i)
 }
 
 // ---- what a record says
@@ -177,7 +177,7 @@ fn number(file: &[u8], j: usize, field: usize) -> u32
     requires { ⌜ HasArray (now file) j × (field < 8) ⌝ }
     ensures { λ r. ⌜ r ≡ getD (File.numbers (array-at (now (file .entry)) j)) field 0 ⌝ }
 {
-    numbers::word(file, 3 + 8 * j + field)
+    numbers::whole_word(file, 3 + 8 * j + field)
 }
 
 pub fn side_of(file: &[u8], j: usize) -> u32

@@ -10,24 +10,24 @@ use Rattle.parts.proofs.Records.{number-there}
 use Rattle.parts.proofs.number.Statement.{statement}
 use Rattle.parts.proofs.number.Tie as tie
 
-mul-word : tie.Need-mul-word
-mul-word c = search needs
+mul-whole-word : tie.Need-mul-whole-word
+mul-whole-word c = search needs
 
-add-word : tie.Need-add-word
-add-word c = search needs
+add-whole-word : tie.Need-add-whole-word
+add-whole-word c = search needs
 
-add-word-2 : tie.Need-add-word-2
-add-word-2 c = search needs
+add-whole-word-2 : tie.Need-add-whole-word-2
+add-whole-word-2 c = search needs
 
-word-requires : tie.Need-word-requires
-word-requires c κs = search needs
+whole-word-requires : tie.Need-whole-word-requires
+whole-word-requires c κs = search needs
 
 returns : tie.Need-returns
 unfolding word
 returns c =
     let s = c .before .before in
     let file = s .args .file .now in
-    c .word .ensures ∙ sym (number-there (words file) (3 + 8 * s .args .j) (omega (arith, words-length file, s .pre .0)) (s .args .field) (s .pre .1))
+    c .whole-word .ensures ∙ sym (number-there (words file) (3 + 8 * s .args .j) (omega (arith, words-length file, s .pre .0)) (s .args .field) (s .pre .1))
 
 pub number-spec : {M : Type 1} → statement M
-number-spec = tie.close (tie.spec mul-word add-word add-word-2 word-requires returns)
+number-spec = tie.close (tie.spec mul-whole-word add-whole-word add-whole-word-2 whole-word-requires returns)
