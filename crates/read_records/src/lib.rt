@@ -161,7 +161,7 @@ fn row_fits(file: &[u8], c: Scope, place: usize, code: u32) -> bool
     let mut field = 0;
     while field < 8 {
         let kind = kind(code, field);
-        let w = numbers::word(file, place + field);
+        let w = numbers::whole_word(file, place + field);
         if !holds(file, c, kind, w) {
             return false;
         }
@@ -175,7 +175,7 @@ pub fn statement_fits(file: &[u8], c: Scope, place: usize) -> bool
     requires { ⌜ Scoped (now file) c × (place + 8 ≤ length (now file) / 4) ⌝ }
     ensures { λ r. ⌜ r ≡ Reading.statement-fits (scope (now (file .entry)) c) (record-at (now (file .entry)) place) ⌝ }
 {
-    let code = numbers::word(file, place);
+    let code = numbers::whole_word(file, place);
     if code < kernel::codes::SETS {
         return false;
     }

@@ -49,7 +49,7 @@ tested c =
     let s = c .before .before .before .before .before .before in
     let a = s .args in
     let e = number-there (words (a .file .now)) (a .place) (omega (arith, words-length (a .file .now), s .pre .1)) (c .before .before .before .before .loop .field) (c .before .before .before .loop-test .taken) in
-    ap₂ (λ k w. holds (scope (a .file .now) (a .c)) k w) (sym (c .before .before .kind .ensures)) (e ∙ sym (c .before .word .ensures))
+    ap₂ (λ k w. holds (scope (a .file .now) (a .c)) k w) (sym (c .before .before .kind .ensures)) (e ∙ sym (c .before .whole-word .ensures))
     ∙ sym (c .holds .ensures)
 
 loop-holds : tie.Need-loop-holds Inv-loop μ-loop
@@ -58,11 +58,11 @@ loop-holds c = (omega arith, refl)
 kind-requires : tie.Need-kind-requires Inv-loop μ-loop
 kind-requires c κs = search needs
 
-add-word : tie.Need-add-word Inv-loop μ-loop
-add-word c = search needs
+add-whole-word : tie.Need-add-whole-word Inv-loop μ-loop
+add-whole-word c = search needs
 
-word-requires : tie.Need-word-requires Inv-loop μ-loop
-word-requires c κs = search needs
+whole-word-requires : tie.Need-whole-word-requires Inv-loop μ-loop
+whole-word-requires c κs = search needs
 
 holds-requires : tie.Need-holds-requires Inv-loop μ-loop
 holds-requires c κs = search needs
@@ -107,8 +107,8 @@ row-fits-spec =
     μ-loop
     loop-holds
     kind-requires
-    add-word
-    word-requires
+    add-whole-word
+    whole-word-requires
     holds-requires
     returns
     add-field

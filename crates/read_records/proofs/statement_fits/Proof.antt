@@ -20,26 +20,26 @@ use Rattle.read_records.proofs.statement_fits.Tie as tie
 abbrev there : tie.Start → Rec
 there s = record-at (s .args .file .now) (s .args .place)
 
-code-is : (c : tie.After-word) → c .word .result ≡ there (c .before .before) .code
+code-is : (c : tie.After-whole-word) → c .whole-word .result ≡ there (c .before .before) .code
 unfolding word
 code-is c =
     let s = c .before .before in
-    c .word .ensures ∙ ap (λ (r : Rec). r .code) (record-there (words (s .args .file .now)) (s .args .place) (omega (arith, words-length (s .args .file .now), s .pre .1)))
+    c .whole-word .ensures ∙ ap (λ (r : Rec). r .code) (record-there (words (s .args .file .now)) (s .args .place) (omega (arith, words-length (s .args .file .now), s .pre .1)))
 
-word-requires : tie.Need-word-requires
-word-requires c κs = search needs
+whole-word-requires : tie.Need-whole-word-requires
+whole-word-requires c κs = search needs
 
 returns : tie.Need-returns
 returns c =
     let w = c .before in
     let s = w .before .before in
-    fits-low (scope (s .args .file .now) (s .args .c)) (there s) (w .word .result) (code-is w) (c .if1 .taken)
+    fits-low (scope (s .args .file .now) (s .args .c)) (there s) (w .whole-word .result) (code-is w) (c .if1 .taken)
 
 returns-2 : tie.Need-returns-2
 returns-2 c =
     let w = c .before .before in
     let s = w .before .before in
-    fits-high (scope (s .args .file .now) (s .args .c)) (there s) (w .word .result) (code-is w) (c .before .if1 .left) (c .if2 .taken)
+    fits-high (scope (s .args .file .now) (s .args .c)) (there s) (w .whole-word .result) (code-is w) (c .before .if1 .left) (c .if2 .taken)
 
 row-fits-requires : tie.Need-row-fits-requires
 row-fits-requires c κs = search needs
@@ -50,7 +50,7 @@ returns-3 c =
     let i = c .before .before in
     let w = i .before .before in
     let s = w .before .before in
-    fits-row (scope (s .args .file .now) (s .args .c)) (there s) (w .word .result) (code-is w) (i .before .if1 .left) (i .if2 .left)
+    fits-row (scope (s .args .file .now) (s .args .c)) (there s) (w .whole-word .result) (code-is w) (i .before .if1 .left) (i .if2 .left)
     (sym (c .before .row-fits .ensures) ∙ not-true _ (c .if3 .taken))
 
 returns-4 : tie.Need-returns-4
@@ -59,7 +59,7 @@ returns-4 c =
     let i = c .before .before .before in
     let w = i .before .before in
     let s = w .before .before in
-    fits-other (scope (s .args .file .now) (s .args .c)) (there s) (w .word .result) (code-is w) (i .before .if1 .left) (i .if2 .left)
+    fits-other (scope (s .args .file .now) (s .args .c)) (there s) (w .whole-word .result) (code-is w) (i .before .if1 .left) (i .if2 .left)
     (sym (c .before .before .row-fits .ensures) ∙ not-false _ (c .before .if3 .left)) (c .if4 .taken)
 
 record-at-requires : tie.Need-record-at-requires
@@ -77,14 +77,14 @@ returns-5 c =
     let w = i .before .before in
     let s = w .before .before in
     ap (λ (l : Loop). leb 1 (l .passes)) (l .loop-of .ensures ∙ ap loop-of (l .before .record-at .ensures))
-    ∙ fits-for (scope (s .args .file .now) (s .args .c)) (there s) (w .word .result) (code-is w) (i .before .if1 .left) (i .if2 .left)
+    ∙ fits-for (scope (s .args .file .now) (s .args .c)) (there s) (w .whole-word .result) (code-is w) (i .before .if1 .left) (i .if2 .left)
     (sym (f .before .before .row-fits .ensures) ∙ not-false _ (f .before .if3 .left)) (f .if4 .left)
 
 pub statement-fits-spec : {M : Type 1} → statement M
 statement-fits-spec =
     tie.close
     (tie.spec
-    word-requires
+    whole-word-requires
     returns
     returns-2
     row-fits-requires
