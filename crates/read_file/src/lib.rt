@@ -14,7 +14,7 @@ ghost use Rattle.kernel.specs.Reading as Reading;
 ghost use Rattle.parts.specs.Records.{rec};
 ghost use Rattle.parts.specs.Parts.{kernel, Fills};
 ghost use Rattle.read_counts.specs.View.{answer};
-ghost use Rattle.read_records.specs.View.{scope, Scoped};
+ghost use Rattle.read_records.specs.View.{IsTable, scope, Scoped};
 ghost use Rattle.read_file.specs.View.{checked, records-from, LiesAt};
 
 // The number and the place of a section's first refusal; number 0 where there is none.
@@ -77,15 +77,22 @@ fn arrays_fit(file: &[u8], at: usize, count: usize) -> Fault
 // ---- statements
 
 // The statements of a program, which begin at a place.
-fn statements_fit(file: &[u8], c: Scope, section: u8, at: usize, count: usize) -> Fault
-    requires { ⌜ Scoped (now file) c × LiesAt 256 (now file) at count ⌝ }
+fn statements_fit(
+    file: &[u8],
+    kinds: &[[u8; 8]; 11],
+    c: Scope,
+    section: u8,
+    at: usize,
+    count: usize,
+) -> Fault
+    requires { ⌜ IsTable (now kinds) × Scoped (now file) c × LiesAt 256 (now file) at count ⌝ }
     ensures { λ r. ⌜ checked section r ≡ Reading.statements-fit (scope (now (file .entry)) c) section 0 [] (records-from (now (file .entry)) at count) ⌝ }
 {
     let mut n = read_blocks::none();
     let mut i = 0;
     while i < count {
         let place = at + 8 * i;
-        if !read_records::statement_fits(file, c, place) {
+        if !read_records::statement_fits(file, kinds, c, place) {
             return Fault {
                 number: kernel::FIELD_OUTSIDE,
                 place: i as u16,
@@ -149,6 +156,7 @@ fn records_fit(file: &[u8], c: Counts) -> Read
     if a.number != 0 {
         return Read::Refused(a.number, kernel::ARRAYS_SECTION, a.place);
     }
+    let kinds = read_records::kinds();
     let one = Scope {
         streaming: false,
         registers: c.r as u32,
@@ -156,7 +164,7 @@ fn records_fit(file: &[u8], c: Counts) -> Read
     };
     let array = parts::array_part(c);
     let first = kernel::ARRAY_PROGRAM_SECTION;
-    let s = statements_fit(file, one, first, array.at, array.count);
+    let s = statements_fit(file, &kinds, one, first, array.at, array.count);
     if s.number != 0 {
         return Read::Refused(s.number, first, s.place);
     }
@@ -167,7 +175,7 @@ fn records_fit(file: &[u8], c: Counts) -> Read
     };
     let stream = parts::stream_part(c);
     let second = kernel::STREAM_PROGRAM_SECTION;
-    let t = statements_fit(file, two, second, stream.at, stream.count);
+    let t = statements_fit(file, &kinds, two, second, stream.at, stream.count);
     if t.number != 0 {
         return Read::Refused(t.number, second, t.place);
     }

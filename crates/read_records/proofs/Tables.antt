@@ -4,29 +4,16 @@ use mathlib.Core.Path.{_≡_, refl, sym, ap, _∙_}
 use mathlib.Core.List.{List, [], map}
 use native.Mathlib.Omega.{arith}
 use lib.ListN.{length, getD, List·getD-map}
-use Rattle.kernel.specs.Reading.{Kind, either, array-only, stream-only, unused, register, an-input, an-output, term, bound, an-operator, table}
-use Rattle.read_records.specs.View.{kind-of, kind-at}
+use Rattle.kernel.specs.Reading.{Kind, unused, table}
+use Rattle.read_records.specs.View.{kind-of, kind-at, IsTable}
 
 -- ---- the table
 
-pub entry : (rows : List (List ℕ)) → map (map kind-of) rows ≡ table → (code field : ℕ) → kind-of (getD (getD rows (code - 1) []) field 0) ≡ kind-at code field
+pub entry : (rows : List (List ℕ)) → IsTable rows → (code field : ℕ) → kind-of (getD (getD rows (code - 1) []) field 0) ≡ kind-at code field
 unfolding kind-of kind-at
 entry rows e code field =
     sym (List·getD-map kind-of (getD rows (code - 1) []) field 0)
     ∙ ap (λ (r : List Kind). getD r field unused) (sym (List·getD-map (map kind-of) rows (code - 1) []) ∙ ap (λ t. getD t (code - 1) []) e)
-
--- a kind's number in the code's table
-unfoldable pub number-of : Kind → ℕ
-number-of unused = 0
-number-of either = 1
-number-of array-only = 2
-number-of stream-only = 3
-number-of register = 4
-number-of an-input = 5
-number-of an-output = 6
-number-of term = 7
-number-of bound = 8
-number-of an-operator = 9
 
 -- every row has 8 fields
 rows-8 : (i : ℕ) → i < 11 → length (getD table i []) ≡ 8

@@ -1,7 +1,8 @@
 -- The code's table and scope, seen as those of the definitions.
 use Prim.Native.Nat.{ℕ, _+_, _-_, _*_, _/_, _≤_}
 use mathlib.Core.Bool.{Bool}
-use mathlib.Core.List.{List, [], _∷_}
+use mathlib.Core.Path.{_≡_}
+use mathlib.Core.List.{List, [], _∷_, map}
 use lib.ListN.{length, getD}
 use Rattle.numbers.specs.Lists.{alike}
 use Rattle.kernel.specs.File.{numbers}
@@ -14,6 +15,10 @@ use Rattle.read_records.specs.declared.Scope.{Scope}
 -- the kind that a number of the code's table stands for
 unfoldable pub kind-of : ℕ → Kind
 kind-of n = getD (unused ∷ either ∷ array-only ∷ stream-only ∷ register ∷ an-input ∷ an-output ∷ term ∷ bound ∷ an-operator ∷ []) n unused
+
+-- the rows of a table of such numbers are those of the definition
+abbrev pub IsTable : List (List ℕ) → Type 0
+IsTable rows = map (map kind-of) rows ≡ table
 
 -- what a field of a code's row may hold
 unfoldable pub kind-at : (code field : ℕ) → Kind

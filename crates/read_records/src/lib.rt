@@ -6,7 +6,7 @@ ghost use lib.IntN.{pos, _+ℤ_, _*ℤ_};
 ghost use lib.ListN.{length, drop};
 ghost use Rattle.numbers.specs.Words as Words;
 ghost use Rattle.kernel.specs.Reading as Reading;
-ghost use Rattle.read_records.specs.View.{kind-of, kind-at, scope, Scoped, row};
+ghost use Rattle.read_records.specs.View.{kind-of, kind-at, IsTable, scope, Scoped, row};
 ghost use mathlib.Core.Bool.{_&&_, _||_};
 ghost use mathlib.Core.List.{[], _∷_};
 ghost use lib.Dec.{eqb, ltb};
@@ -121,11 +121,18 @@ const KINDS: [[u8; 8]; 11] = [
     ],
 ];
 
-fn kind(code: u32, field: usize) -> u8
-    requires { ⌜ (1 ≤ code) × (code ≤ 11) × (field < 8) ⌝ }
+// Each use of the constant builds the table anew: it is made once for a reading, and lent.
+pub fn kinds() -> [[u8; 8]; 11]
+    ensures { λ r. ⌜ IsTable r ⌝ }
+{
+    KINDS
+}
+
+fn kind(kinds: &[[u8; 8]; 11], code: u32, field: usize) -> u8
+    requires { ⌜ IsTable (now kinds) × (1 ≤ code) × (code ≤ 11) × (field < 8) ⌝ }
     ensures { λ r. ⌜ kind-of r ≡ kind-at code field ⌝ }
 {
-    KINDS[(code - 1) as usize][field]
+    kinds[(code - 1) as usize][field]
 }
 
 // What a program's fields are held to: whether it is the stream program, its registers, and how many arrays the file has.
@@ -154,13 +161,13 @@ fn holds(file: &[u8], c: Scope, kind: u8, w: u32) -> bool
 }
 
 // Whether each of the eight numbers at a place is what the code's row of the table says.
-fn row_fits(file: &[u8], c: Scope, place: usize, code: u32) -> bool
-    requires { ⌜ Scoped (now file) c × (place + 8 ≤ length (now file) / 4) × (1 ≤ code) × (code ≤ 11) ⌝ }
+fn row_fits(file: &[u8], kinds: &[[u8; 8]; 11], c: Scope, place: usize, code: u32) -> bool
+    requires { ⌜ IsTable (now kinds) × Scoped (now file) c × (place + 8 ≤ length (now file) / 4) × (1 ≤ code) × (code ≤ 11) ⌝ }
     ensures { λ r. ⌜ r ≡ row (now (file .entry)) c place code ⌝ }
 {
     let mut field = 0;
     while field < 8 {
-        let kind = kind(code, field);
+        let kind = kind(kinds, code, field);
         let w = numbers::whole_word(file, place + field);
         if !holds(file, c, kind, w) {
             return false;
@@ -171,8 +178,8 @@ fn row_fits(file: &[u8], c: Scope, place: usize, code: u32) -> bool
 }
 
 // Whether the record at a place is a statement of the program.
-pub fn statement_fits(file: &[u8], c: Scope, place: usize) -> bool
-    requires { ⌜ Scoped (now file) c × (place + 8 ≤ length (now file) / 4) ⌝ }
+pub fn statement_fits(file: &[u8], kinds: &[[u8; 8]; 11], c: Scope, place: usize) -> bool
+    requires { ⌜ IsTable (now kinds) × Scoped (now file) c × (place + 8 ≤ length (now file) / 4) ⌝ }
     ensures { λ r. ⌜ r ≡ Reading.statement-fits (scope (now (file .entry)) c) (record-at (now (file .entry)) place) ⌝ }
 {
     let code = numbers::whole_word(file, place);
@@ -182,7 +189,7 @@ pub fn statement_fits(file: &[u8], c: Scope, place: usize) -> bool
     if kernel::codes::ENDS < code {
         return false;
     }
-    if !row_fits(file, c, place, code) {
+    if !row_fits(file, kinds, c, place, code) {
         return false;
     }
     if code != kernel::codes::FORS {

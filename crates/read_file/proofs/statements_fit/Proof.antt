@@ -1,5 +1,5 @@
 -- `read_file::statements_fit` meets its contract. The invariant: the test from here on, with the blocks that are open, is the test of the whole.
-use Prim.Native.Nat.{_-_, _≤_}
+use Prim.Native.Nat.{_+_, _-_, _*_, _≤_}
 use mathlib.Core.Path.{_≡_, sym, ap, subst, _∙_}
 use mathlib.Core.List.{[]}
 use native.Mathlib.Omega.{arith}
@@ -8,7 +8,8 @@ use lib.ListN.{drop}
 use Rattle.numbers.specs.Words.{words}
 use Rattle.kernel.specs.File as File
 use Rattle.kernel.specs.File.{Rec, loop-of}
-use Rattle.kernel.specs.Reading.{records, after, statements-fit}
+use Rattle.kernel.specs.Reading.{records, after, statement-fits, statements-fit}
+use Rattle.parts.specs.Records.{record-at}
 use Rattle.read_records.specs.View.{scope}
 use Rattle.read_blocks.specs.View.{opens, Sound}
 use Rattle.read_blocks.proofs.Statements.{nested-fine}
@@ -20,12 +21,12 @@ use Rattle.read_file.proofs.statements_fit.Statement.{statement}
 use Rattle.read_file.proofs.statements_fit.Tie as tie
 
 abbrev Inv-loop : tie.InvT-loop
-Inv-loop file c section at count n₀ i₀ n i =
+Inv-loop file lent c section at count n₀ i₀ n i =
     (i ≤ count) × Sound n × (n .number ≡ 0)
     × (statements-fit (scope file c) section i (opens n) (drop i (records count (drop at (words file)))) ≡ statements-fit (scope file c) section 0 [] (records count (drop at (words file))))
 
 abbrev μ-loop : tie.MeasureT-loop
-μ-loop file c section at count n₀ i₀ n i = count - i
+μ-loop file lent c section at count n₀ i₀ n i = count - i
 
 none-requires : tie.Need-none-requires Inv-loop μ-loop
 none-requires c κs = search needs
@@ -44,15 +45,21 @@ add-place c = search needs
 statement-fits-requires : tie.Need-statement-fits-requires Inv-loop μ-loop
 statement-fits-requires c κs = search needs
 
-cast-t13 : tie.Need-cast-t13 Inv-loop μ-loop
-cast-t13 c = search needs
+-- what the statement's test answers
+tested : (c : tie.After-statement-fits Inv-loop μ-loop)
+    → let a = c .before .before .before .before .before .args in
+    statement-fits (scope (a .file .now) (a .c)) (record-at (a .file .now) (a .at + 8 * c .before .before .loop .i)) ≡ c .statement-fits .result
+tested c = sym (c .statement-fits .ensures)
+
+cast-t14 : tie.Need-cast-t14 Inv-loop μ-loop
+cast-t14 c = search needs
 
 returns : tie.Need-returns Inv-loop μ-loop
 unfolding checked
 returns c =
     let a = c .before .before .before .before .before .before in
     let l = c .before .before .before .loop in
-    sym (unfit (scope (a .args .file .now) (a .args .c)) (a .args .section) (words (a .args .file .now)) (a .args .at) (a .args .count) (l .i) (c .before .before .loop-test .taken) (opens (l .n)) (sym (c .before .statement-fits .ensures) ∙ not-true _ (c .if1 .taken)))
+    sym (unfit (scope (a .args .file .now) (a .args .c)) (a .args .section) (words (a .args .file .now)) (a .args .at) (a .args .count) (l .i) (c .before .before .loop-test .taken) (opens (l .n)) (tested (c .before) ∙ not-true _ (c .if1 .taken)))
     ∙ l .inv .3
 
 record-at-requires : tie.Need-record-at-requires Inv-loop μ-loop
@@ -64,11 +71,11 @@ after-requires c κs =
       l .inv .1,
       l .inv .2,
       λ e. subst (λ r. (1 ≤ loop-of r .passes) × (loop-of r .passes ≤ 131072)) (sym (c .record-at .ensures))
-          (loop-there (scope (c .before .before .before .before .before .before .before .args .file .now) (c .before .before .before .before .before .before .before .args .c)) _ (sym (c .before .before .statement-fits .ensures) ∙ not-false _ (c .before .if1 .left)) (sym (ap (λ (r : Rec). r .code) (c .record-at .ensures)) ∙ e)),
+          (loop-there (scope (c .before .before .before .before .before .before .before .args .file .now) (c .before .before .before .before .before .before .before .args .c)) _ (tested (c .before .before) ∙ not-false _ (c .before .if1 .left)) (sym (ap (λ (r : Rec). r .code) (c .record-at .ensures)) ∙ e)),
     )
 
-cast-t14 : tie.Need-cast-t14 Inv-loop μ-loop
-cast-t14 c = search needs
+cast-t15 : tie.Need-cast-t15 Inv-loop μ-loop
+cast-t15 c = search needs
 
 returns-2 : tie.Need-returns-2 Inv-loop μ-loop
 returns-2 c =
@@ -76,7 +83,7 @@ returns-2 c =
     let l = c .before .before .before .before .before .before .before .loop in
     let n = c .before .before .after .result in
     checked-stop (a .args .section) (record { number = n .number; place = l .i }) (c .if2 .taken)
-    ∙ sym (blocked (scope (a .args .file .now) (a .args .c)) (a .args .section) (words (a .args .file .now)) (a .args .at) (a .args .count) (l .i) (c .before .before .before .before .before .before .loop-test .taken) (opens (l .n)) (sym (c .before .before .before .before .before .statement-fits .ensures) ∙ not-false _ (c .before .before .before .before .if1 .left)) (n .number) (ap (λ r. after (File.statement r) (opens (l .n))) (sym (c .before .before .before .record-at .ensures)) ∙ sym (c .before .before .after .ensures .0) ∙ nested-stop n (c .if2 .taken)))
+    ∙ sym (blocked (scope (a .args .file .now) (a .args .c)) (a .args .section) (words (a .args .file .now)) (a .args .at) (a .args .count) (l .i) (c .before .before .before .before .before .before .loop-test .taken) (opens (l .n)) (tested (c .before .before .before .before .before) ∙ not-false _ (c .before .before .before .before .if1 .left)) (n .number) (ap (λ r. after (File.statement r) (opens (l .n))) (sym (c .before .before .before .record-at .ensures)) ∙ sym (c .before .before .after .ensures .0) ∙ nested-stop n (c .if2 .taken)))
     ∙ l .inv .3
 
 add-i : tie.Need-add-i Inv-loop μ-loop
@@ -93,12 +100,12 @@ loop-again c =
       search needs,
       c .before .before .after .ensures .1,
       c .if2 .left,
-      goes-on (scope (a .args .file .now) (a .args .c)) (a .args .section) (words (a .args .file .now)) (a .args .at) (a .args .count) (l .i) (c .before .before .before .before .before .before .loop-test .taken) (opens (l .n)) (sym (c .before .before .before .before .before .statement-fits .ensures) ∙ not-false _ (c .before .before .before .before .if1 .left)) (opens n) (ap (λ r. after (File.statement r) (opens (l .n))) (sym (c .before .before .before .record-at .ensures)) ∙ sym (c .before .before .after .ensures .0) ∙ nested-fine n (c .if2 .left))
+      goes-on (scope (a .args .file .now) (a .args .c)) (a .args .section) (words (a .args .file .now)) (a .args .at) (a .args .count) (l .i) (c .before .before .before .before .before .before .loop-test .taken) (opens (l .n)) (tested (c .before .before .before .before .before) ∙ not-false _ (c .before .before .before .before .if1 .left)) (opens n) (ap (λ r. after (File.statement r) (opens (l .n))) (sym (c .before .before .before .record-at .ensures)) ∙ sym (c .before .before .after .ensures .0) ∙ nested-fine n (c .if2 .left))
           ∙ l .inv .3,
     )
 
-cast-t16 : tie.Need-cast-t16 Inv-loop μ-loop
-cast-t16 c = search needs
+cast-t17 : tie.Need-cast-t17 Inv-loop μ-loop
+cast-t17 c = search needs
 
 returns-3 : tie.Need-returns-3 Inv-loop μ-loop
 unfolding checked
@@ -129,15 +136,15 @@ statements-fit-spec =
     mul-place
     add-place
     statement-fits-requires
-    cast-t13
+    cast-t14
     returns
     record-at-requires
     after-requires
-    cast-t14
+    cast-t15
     returns-2
     add-i
     loop-less
     loop-again
-    cast-t16
+    cast-t17
     returns-3
     returns-4)

@@ -1,9 +1,5 @@
--- `read_records::kind` meets its contract: its table is the definition's, each kind by its number.
-use mathlib.Core.Path.{refl}
-use mathlib.Core.List.{map}
-use Rattle.kernel.specs.Reading.{table}
-use Rattle.read_records.specs.View.{kind-of}
-use Rattle.read_records.proofs.Tables.{entry, number-of}
+-- `read_records::kind` meets its contract: an entry of a table of kinds by their numbers.
+use Rattle.read_records.proofs.Tables.{entry}
 use borrow.Author.Needs.{needs}
 use Rattle.read_records.proofs.kind.Statement.{statement}
 use Rattle.read_records.proofs.kind.Tie as tie
@@ -24,8 +20,9 @@ index-2-result : tie.Need-index-2-result
 index-2-result c = search needs
 
 returns : tie.Need-returns
-unfolding table kind-of number-of
-returns c = entry (map (map number-of) table) refl (c .before .args .code) (c .before .args .field)
+returns c =
+    let s = c .before in
+    entry (s .args .kinds .now) (s .pre .0) (s .args .code) (s .args .field)
 
 pub kind-spec : {M : Type 1} → statement M
 kind-spec =

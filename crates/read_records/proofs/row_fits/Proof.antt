@@ -27,17 +27,17 @@ abbrev fields : List ℕ → ℕ → List ℕ
 fields file place = numbers (record-at file place)
 
 abbrev Inv-loop : tie.InvT-loop
-Inv-loop file c place code field₀ field = (field ≤ 8) × From (holds (scope file c)) (kinds code) (fields file place) field
+Inv-loop file lent c place code field₀ field = (field ≤ 8) × From (holds (scope file c)) (kinds code) (fields file place) field
 
 abbrev μ-loop : tie.MeasureT-loop
-μ-loop file c place code field₀ field = 8 - field
+μ-loop file lent c place code field₀ field = 8 - field
 
 -- both rows have eight cells
 kinds-8 : (s : tie.Start Inv-loop μ-loop) → length (kinds (s .args .code)) ≡ 8
-kinds-8 s = row-8 (s .args .code) (s .pre .2) (s .pre .3)
+kinds-8 s = row-8 (s .args .code) (s .pre .3) (s .pre .4)
 
 fields-8 : (s : tie.Start Inv-loop μ-loop) → length (fields (s .args .file .now) (s .args .place)) ≡ 8
-fields-8 s = numbers-8 (words (s .args .file .now)) (s .args .place) (omega (arith, words-length (s .args .file .now), s .pre .1))
+fields-8 s = numbers-8 (words (s .args .file .now)) (s .args .place) (omega (arith, words-length (s .args .file .now), s .pre .2))
 
 -- a field's test, as the code answers it
 tested : (c : tie.After-holds Inv-loop μ-loop)
@@ -48,7 +48,7 @@ unfolding word kind-at
 tested c =
     let s = c .before .before .before .before .before .before in
     let a = s .args in
-    let e = number-there (words (a .file .now)) (a .place) (omega (arith, words-length (a .file .now), s .pre .1)) (c .before .before .before .before .loop .field) (c .before .before .before .loop-test .taken) in
+    let e = number-there (words (a .file .now)) (a .place) (omega (arith, words-length (a .file .now), s .pre .2)) (c .before .before .before .before .loop .field) (c .before .before .before .loop-test .taken) in
     ap₂ (λ k w. holds (scope (a .file .now) (a .c)) k w) (sym (c .before .before .kind .ensures)) (e ∙ sym (c .before .whole-word .ensures))
     ∙ sym (c .holds .ensures)
 

@@ -24,7 +24,7 @@ code-is : (c : tie.After-whole-word) → c .whole-word .result ≡ there (c .bef
 unfolding word
 code-is c =
     let s = c .before .before in
-    c .whole-word .ensures ∙ ap (λ (r : Rec). r .code) (record-there (words (s .args .file .now)) (s .args .place) (omega (arith, words-length (s .args .file .now), s .pre .1)))
+    c .whole-word .ensures ∙ ap (λ (r : Rec). r .code) (record-there (words (s .args .file .now)) (s .args .place) (omega (arith, words-length (s .args .file .now), s .pre .2)))
 
 whole-word-requires : tie.Need-whole-word-requires
 whole-word-requires c κs = search needs
@@ -44,6 +44,13 @@ returns-2 c =
 row-fits-requires : tie.Need-row-fits-requires
 row-fits-requires c κs = search needs
 
+-- what the row's test answers
+row-is : (c : tie.After-row-fits)
+    → let w = c .before .before .before in
+    let a = w .before .before .args in
+    row (a .file .now) (a .c) (a .place) (w .whole-word .result) ≡ c .row-fits .result
+row-is c = sym (c .row-fits .ensures)
+
 returns-3 : tie.Need-returns-3
 unfolding row
 returns-3 c =
@@ -51,7 +58,7 @@ returns-3 c =
     let w = i .before .before in
     let s = w .before .before in
     fits-row (scope (s .args .file .now) (s .args .c)) (there s) (w .whole-word .result) (code-is w) (i .before .if1 .left) (i .if2 .left)
-    (sym (c .before .row-fits .ensures) ∙ not-true _ (c .if3 .taken))
+    (row-is (c .before) ∙ not-true _ (c .if3 .taken))
 
 returns-4 : tie.Need-returns-4
 unfolding row
@@ -60,7 +67,7 @@ returns-4 c =
     let w = i .before .before in
     let s = w .before .before in
     fits-other (scope (s .args .file .now) (s .args .c)) (there s) (w .whole-word .result) (code-is w) (i .before .if1 .left) (i .if2 .left)
-    (sym (c .before .before .row-fits .ensures) ∙ not-false _ (c .before .if3 .left)) (c .if4 .taken)
+    (row-is (c .before .before) ∙ not-false _ (c .before .if3 .left)) (c .if4 .taken)
 
 record-at-requires : tie.Need-record-at-requires
 record-at-requires c κs = search needs
@@ -78,7 +85,7 @@ returns-5 c =
     let s = w .before .before in
     ap (λ (l : Loop). leb 1 (l .passes)) (l .loop-of .ensures ∙ ap loop-of (l .before .record-at .ensures))
     ∙ fits-for (scope (s .args .file .now) (s .args .c)) (there s) (w .whole-word .result) (code-is w) (i .before .if1 .left) (i .if2 .left)
-    (sym (f .before .before .row-fits .ensures) ∙ not-false _ (f .before .if3 .left)) (f .if4 .left)
+    (row-is (f .before .before) ∙ not-false _ (f .before .if3 .left)) (f .if4 .left)
 
 pub statement-fits-spec : {M : Type 1} → statement M
 statement-fits-spec =
