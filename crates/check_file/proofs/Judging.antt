@@ -5,6 +5,7 @@ use mathlib.Core.Bool.{Bool, true, false, _&&_}
 use mathlib.Core.List.{List, [], _∷_}
 use native.Mathlib.Omega.{arith}
 use lib.Dec.{leb}
+use lib.IntN.{ℤ}
 use lib.ListN.{length, drop, take}
 use borrow.Author.Tests.{le-leb}
 use Rattle.numbers.specs.Result.{Result, stop, _>>=_, need, because}
@@ -18,16 +19,17 @@ use Rattle.kernel.specs.Check.{walk-on}
 use Rattle.kernel.specs.Answers as Answers
 use Rattle.kernel.proofs.Walking.{walk-whole, walk-over, Low, walk-low}
 use Rattle.parts.specs.declared.Counts.{Counts}
-use Rattle.kernel.specs.Guarantees.{Nested}
-use Rattle.check_ledger.specs.View.{ledger, Bounded}
-use Rattle.check_take.specs.declared.Taken.{Taken}
+use Rattle.check_ledger.specs.View.{zeros, ledger}
+use Rattle.check_ledger.proofs.Bounds.{zeros-bounded}
+use Rattle.check_ledger.proofs.Steps.{fresh-right}
+use Rattle.check_take.specs.declared.Place.{Place}
 use Rattle.parts.specs.Parts.{ReadAs}
-use Rattle.check_take.specs.View.{place, Stood}
+use Rattle.check_take.specs.View.{Taken, place, standing, Stood}
 use Rattle.parts.proofs.Parts.{K, reads, few, arrays-count, array-count, stream-count, rule-count, buffers-are}
 use Rattle.check_walk.specs.View.{Goes, Opens, Rests}
 use Rattle.check_walk.proofs.Walks.{goes-on, goes-nowhere, comes-over}
 use Rattle.check_file.specs.declared.Checked.the-variants.{Accepted, Refused}
-use Rattle.check_file.specs.View.{answer, refusal-at, Fresh}
+use Rattle.check_file.specs.View.{answer, refusal-at, origin}
 
 -- ---- the beginning
 
@@ -35,26 +37,26 @@ pub no-loops : (ls : Loops) → loops ls ≡ [] → S.loops [] ≡ loops ls
 unfolding S.loops
 no-loops ls o = sym o
 
-module _ (file : List ℕ) (c : Counts) (e : ReadAs file c) (w : Taken) (f : Fresh w) where
-  pub stood : Stood c (w .at) (w .ledger)
-  stood = record { rules = omega (arith, f .rule); arrays = omega (arith, f .array); streams = omega (arith, f .stream); bounded = subst (λ n. Bounded n (w .ledger)) (sym (f .rule)) (f .bounded) }
+module _ (file : List ℕ) (c : Counts) (e : ReadAs file c) (at : Place) (l : List ℤ) (p : at ≡ origin) (q : l ≡ zeros) where
+  pub stood : Stood c at l
+  stood = subst (λ at. Stood c at l) (sym p) (subst (Stood c origin) (sym q) (record { rules = omega arith; arrays = omega arith; streams = omega arith; bounded = zeros-bounded }))
 
-  pub opens : (ls : Loops) → ls .count ≡ 0 → Opens file c w ls
+  pub opens : (ls : Loops) → ls .count ≡ 0 → Opens file c at ls
   unfolding open-loops
-  opens ls o = record { opens = []; reads-on = subst (λ i. Nested (array-scope (K file c)) [] (drop i (K file c .array-program))) (sym (f .array)) (reads file c e .array-program); level = sym o }
+  opens ls o = subst (λ at. Opens file c at ls) (sym p) (record { opens = []; reads-on = reads file c e .array-program; level = sym o })
 
-  stands : place (c .a) (c .b) [] (w .at) (w .ledger) ≡ S.beginning (K file c)
+  stands : place (c .a) (c .b) [] at l ≡ S.beginning (K file c)
   unfolding S.beginning
   stands =
-      let l : ledger (c .a) (c .b) (w .ledger) ≡ L.fresh (K file c) =
-      (λ i. ledger (sym (arrays-count file c) i) (sym (buffers-are file c) i) (w .ledger))
-      ∙ f .fresh (K file c) (omega (arith, reads file c e .few-arrays)) (omega (arith, reads file c e .few-buffers)) in
-      λ i. record { rule = f .rule i; array = f .array i; stream = f .stream i; opened = []; ledger = l i }
+      let m : ledger (c .a) (c .b) l ≡ L.fresh (K file c) =
+      (λ i. ledger (sym (arrays-count file c) i) (sym (buffers-are file c) i) (q i))
+      ∙ fresh-right (K file c) (omega (arith, reads file c e .few-arrays)) (omega (arith, reads file c e .few-buffers)) in
+      λ i. record { rule = p i .rule; array = p i .array; stream = p i .stream; opened = []; ledger = m i }
 
   -- ---- the end
 
-  module _ (r : Taken) (g : Goes file c [] w [] r) where
-    walked : Check.check-kernel (K file c) ≡ walk-on (K file c) (place (c .a) (c .b) [] (w .at) (w .ledger))
+  module _ (r : Taken) (g : Goes file c [] (standing at l) [] r) where
+    walked : Check.check-kernel (K file c) ≡ walk-on (K file c) (place (c .a) (c .b) [] at l)
     walked = walk-whole (K file c) ∙ ap (walk-on (K file c)) (sym stands)
 
     refused : (r .number ≡ 0 → ⊥) → Check.check-kernel (K file c) ≡ stop (Check.refused-at (place (c .a) (c .b) [] (r .at) (r .ledger)) (r .number))
@@ -73,7 +75,7 @@ module _ (file : List ℕ) (c : Counts) (e : ReadAs file c) (w : Taken) (f : Fre
         let (x, y, v) : (r .at .rule ≤ 25600) × (r .at .array ≤ 25600) × (r .at .stream ≤ 25600) = subst (Low 25600) (refused z) b in
         (omega (arith, x), omega (arith, y), omega (arith, v))
 
-    module _ (z : r .number ≡ 0) (o : Rests file c false r) where
+    module _ (z : r .number ≡ 0) (o : Rests file c false (r .at)) where
       pub low-end : Stood c (r .at) (r .ledger) → (r .at .rule < 2 ^ 16) × (r .at .array < 2 ^ 16) × (r .at .stream < 2 ^ 16)
       low-end s = let m = few file c e in (omega (arith, s .rules, m .rules), omega (arith, s .rules, s .arrays, m .rules), omega (arith, s .rules, s .streams, m .rules))
 
@@ -86,7 +88,7 @@ module _ (file : List ℕ) (c : Counts) (e : ReadAs file c) (w : Taken) (f : Fre
       ended : (t : Bool) → t ≡ Check.all-counted (K file c) (ledger (c .a) (c .b) (r .ledger)) → Check.check-kernel (K file c) ≡ Check.at (place (c .a) (c .b) [] (r .at) (r .ledger)) (ending true true t)
       unfolding Check.finish Check.no-block
       ended t k =
-          let (d, s, u) = comes-over file c r o in
+          let (d, s, u) = comes-over file c (r .at) o in
           walked ∙ g ∙ goes-on file c [] r z
           ∙ walk-over (K file c) (place (c .a) (c .b) [] (r .at) (r .ledger)) (omega (arith, rule-count file c, d))
           ∙ (λ i. Check.at (place (c .a) (c .b) [] (r .at) (r .ledger)) (ending (le-leb (length (K file c .array-program)) (r .at .array) (omega (arith, array-count file c, s)) i) (le-leb (length (K file c .stream-program)) (r .at .stream) (omega (arith, stream-count file c, u)) i) (sym k i)))

@@ -1,6 +1,6 @@
 // The check of a file: reading, the walk over the derivation, and the counts.
+use check_ledger::Entries;
 use check_take::Place;
-use check_take::Taken;
 use forms::Form;
 use parts::Counts;
 use read_counts::Read;
@@ -15,8 +15,9 @@ ghost use Rattle.kernel.specs.Check as Check;
 ghost use Rattle.kernel.specs.Answers as Answers;
 ghost use Rattle.parts.specs.Parts.{kernel, ReadAs};
 ghost use Rattle.parts.specs.Arrays.{arrays-of, Arrays};
+ghost use Rattle.check_ledger.specs.View.{positions};
 ghost use Rattle.check_file.specs.declared.Checked.the-variants.{Refused};
-ghost use Rattle.check_file.specs.View.{answer, refusal-at, Fresh};
+ghost use Rattle.check_file.specs.View.{answer, refusal-at, origin};
 ghost use Rattle.check_file.specs.Promises.{Checks};
 
 // A refusal by the check, at the next records of derivation, array program and stream program.
@@ -48,16 +49,16 @@ fn refused_at(at: Place, number: u8) -> Checked
 }
 
 // Whether each of n positions is its array's count.
-fn all_counted(file: &[u8], n: usize, positions: [Form; 8]) -> bool
+fn all_counted(file: &[u8], n: usize, l: &Entries) -> bool
     requires { ⌜ Arrays (now file) n ⌝ }
-    ensures { λ r. ⌜ ((K : File.Kernel) (M : L.Ledger) → K .arrays ≡ arrays-of (now (file .entry)) n → M .positions ≡ map form (take n positions) → r ≡ Check.all-counted K M) ⌝ }
+    ensures { λ r. ⌜ ((K : File.Kernel) (M : L.Ledger) → K .arrays ≡ arrays-of (now (file .entry)) n → M .positions ≡ map form (take n (positions (now (l .entry)))) → r ≡ Check.all-counted K M) ⌝ }
 {
     let around = forms::outside();
     let mut j = 0;
     while j < n {
         let count = parts::count_of(file, j) as i64;
         let f = Form::constant(count);
-        let g = positions[j];
+        let g = check_ledger::position(l, j);
         if !f.same(g, around) {
             return false;
         }
@@ -67,19 +68,13 @@ fn all_counted(file: &[u8], n: usize, positions: [Form; 8]) -> bool
 }
 
 // Before the first rule.
-fn beginning() -> Taken
-    ensures { λ r. ⌜ Fresh r ⌝ }
+fn beginning() -> Place
+    ensures { λ r. ⌜ r ≡ origin ⌝ }
 {
-    let ledger = check_ledger::fresh();
-    let at = Place {
+    Place {
         rule: 0,
         array: 0,
         stream: 0,
-    };
-    Taken {
-        number: 0,
-        at,
-        ledger,
     }
 }
 
@@ -88,12 +83,12 @@ pub fn judged(file: &[u8], c: Counts) -> Checked
     requires { ⌜ ReadAs (now file) c ⌝ }
     ensures { λ r. ⌜ answer r ≡ Answers.checked (Check.check-kernel (kernel (now (file .entry)) c)) ⌝ }
 {
-    let r = check_walk::check_block(file, c, beginning(), forms::outside(), false);
+    let mut l = check_ledger::fresh();
+    let r = check_walk::check_block(file, c, beginning(), &mut l, forms::outside(), false);
     if r.number != 0 {
         return refused_at(r.at, r.number);
     }
-    let positions = r.ledger.positions;
-    if !all_counted(file, c.a, positions) {
+    if !all_counted(file, c.a, &l) {
         return refused_at(r.at, kernel::NOT_COUNTED);
     }
     Checked::Accepted

@@ -1,4 +1,5 @@
 pub mod Rows
+pub mod Entries
 pub mod Bounds
 pub mod Steps
 pub mod Loops

@@ -60,6 +60,9 @@ pub record Written {A B : Type 0} (v : A → B) (want : ℕ → List B) (n i : �
   pub long : n ≤ length r
   pub so-far : map v (take i r) ≡ want i
 
+pub written-starts : {A B : Type 0} {v : A → B} {want : ℕ → List B} {n : ℕ} {r : List A} → n ≤ length r → [] ≡ want 0 → Written v want n 0 r
+written-starts l e = record { in-time = omega arith; long = l; so-far = e }
+
 -- the first i + 1 cells
 pub view-more : {A B : Type 0} (v : A → B) (p : List A) (i : ℕ) (d : A) → i < length p → map v (take (i + 1) p) ≡ map v (take i p) ++ v (getD p i d) ∷ []
 view-more v p i d h = ap (λ j. map v (take j p)) (add-one i) ∙ ap (map v) (take-suc p i d h) ∙ map-append v (take i p) (getD p i d ∷ [])
@@ -77,6 +80,10 @@ module _ {A B : Type 0} {v : A → B} {want : ℕ → List B} {n i : ℕ} {r : L
             ∙ ap (λ l. l ++ v x ∷ []) (W .so-far)
             ∙ sym e;
       }
+
+  -- the same where the row is known by an equation
+  pub written-next : {s : List A} (x : A) → s ≡ set r i x → i < n → want (i + 1) ≡ want i ++ v x ∷ [] → Written v want n (i + 1) s
+  written-next x q h e = subst (Written v want n (i + 1)) (sym q) (written-more x h e)
 
   pub written-all : n ≤ i → map v (take n r) ≡ want n
   written-all h =

@@ -1,6 +1,6 @@
 -- Rows of cells, of which the first n are seen through a function: one cell read, one changed, all alike; and what holds of every cell.
 use Prim.Native.Nat.{ℕ, zero, suc, _≤_, _<_}
-use mathlib.Core.Path.{_≡_, refl, ap, _∙_}
+use mathlib.Core.Path.{_≡_, refl, sym, ap, subst, _∙_}
 use mathlib.Core.List.{List, [], _∷_, map}
 use native.Mathlib.Omega.{arith}
 use lib.ListN.{getD, set, take, replicate, List·getD-map}
@@ -29,6 +29,13 @@ module _ {A : Type 0} (P : A → Type 0) where
   all-set (y ∷ l) zero x d past h new (suc j) = h (suc j)
   all-set (y ∷ l) (suc i) x d past h new zero = h 0
   all-set (y ∷ l) (suc i) x d past h new (suc j) = all-set l i x d past (λ j. h (suc j)) new j
+
+  -- the same of a row that is known by an equation
+  pub all-same : {l r : List A} (d : A) → r ≡ l → ((j : ℕ) → P (getD l j d)) → (j : ℕ) → P (getD r j d)
+  all-same d e h j = subst (λ l. P (getD l j d)) (sym e) (h j)
+
+  pub all-put : (l : List A) (i : ℕ) {r : List A} {x d : A} → r ≡ set l i x → P d → ((j : ℕ) → P (getD l j d)) → P x → (j : ℕ) → P (getD r j d)
+  all-put l i {x = x} {d} e past h new = all-same d e (all-set l i x d past h new)
 
   pub all-alike : (n : ℕ) (x d : A) → P d → P x → (j : ℕ) → P (getD (replicate n x) j d)
   all-alike zero x d past new j = past

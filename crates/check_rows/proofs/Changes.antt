@@ -1,11 +1,13 @@
 -- Every form of a ledger changed by one function; and the change of a level's counter, with its bounds.
 use Prim.Native.Nat.{ℕ, zero, suc, _+_, _*_, _^_, _≤_, _<_}
 use mathlib.Core.Path.{_≡_, refl, sym, ap, subst, _∙_}
+use mathlib.Core.Bool.{Bool, _&&_}
 use mathlib.Core.List.{List, [], _∷_, _++_, map, map-append}
 use mathlib.Core.Option.{some}
 use native.Mathlib.Omega.{arith}
 use lib.ListN.{length, getD, set, take}
-use lib.IntN.{pos}
+use lib.IntN.{ℤ, pos, negsuc}
+use Rattle.numbers.specs.Lists.{alike}
 use Rattle.numbers.specs.Bounds.{Small}
 use Rattle.numbers.proofs.Signs.{small-add, small-mul, small-zero}
 use Rattle.forms.specs.Form as F
@@ -13,25 +15,25 @@ use Rattle.forms.specs.Code.{form, Within}
 use Rattle.forms.specs.declared.Form.{Form}
 use Rattle.forms.proofs.Shared.{coefficient-small}
 use Rattle.kernel.specs.Ledger as L
-use Rattle.check_ledger.specs.declared.Ledger.{Ledger}
-use Rattle.check_ledger.specs.View.{numbered, held, ledger}
+use Rattle.check_ledger.specs.View.{positions, buffers, numbered, held, ledger}
 use Rattle.check_ledger.proofs.Rows.{all-set}
 use Rattle.check_ledger.proofs.Bounds.{within-wider, within-seen}
 use Rattle.check_rows.specs.Changes.{with-change, amount}
 use Rattle.check_rows.specs.declared.Change.{Change}
 use Rattle.check_rows.specs.declared.Change.the-variants.{At, By}
-use Rattle.check_ledger.proofs.Loops.{Written, view-more, written-more}
+use Rattle.check_ledger.proofs.Loops.{Written, view-more, written-next}
 
 -- ---- one function
 
 module _ (change : F.Form → F.Form) where
-  pub held-changed : (n : ℕ) {f g : Form} → form g ≡ change (form f) → numbered n g ≡ L.each-held change (numbered n f)
+  pub held-changed : (n : ℤ) {f g : Form} → form g ≡ change (form f) → numbered n g ≡ L.each-held change (numbered n f)
   unfolding numbered L.each-held
-  held-changed zero e = refl
-  held-changed (suc n) e = ap (λ f. some (L.held n f)) e
+  held-changed (pos zero) e = refl
+  held-changed (pos (suc n)) e = ap (λ f. some (L.held n f)) e
+  held-changed (negsuc n) e = refl
 
-  pub each-right : (a b : ℕ) (l r : Ledger) → map form (take a (r .positions)) ≡ map change (map form (take a (l .positions)))
-      → map held (take b (r .held)) ≡ map (L.each-held change) (map held (take b (l .held))) → ledger a b r ≡ L.each change (ledger a b l)
+  pub each-right : (a b : ℕ) (l r : List ℤ) → map form (take a (positions r)) ≡ map change (map form (take a (positions l)))
+      → map held (take b (buffers r)) ≡ map (L.each-held change) (map held (take b (buffers l))) → ledger a b r ≡ L.each change (ledger a b l)
   unfolding ledger L.each
   each-right a b l r e f = λ i. record { positions = e i; buffers = f i }
 
@@ -40,10 +42,18 @@ module _ {A B : Type 0} (change : B → B) (v : A → B) where
   abbrev pub first-changed : List A → ℕ → List B
   first-changed p i = map change (map v (take i p))
 
-  pub changed-more : (p : List A) {r : List A} {n i : ℕ} (d x : A) → n ≤ length p → i < n → v x ≡ change (v (getD p i d)) → Written v (first-changed p) n i r → Written v (first-changed p) n (i + 1) (set r i x)
-  changed-more p {r} {n} {i} d x l h e W =
-      written-more W x h
+  pub changed-more : (p : List A) {r s : List A} {n i : ℕ} (d x : A) → n ≤ length p → i < n → v x ≡ change (v (getD p i d)) → Written v (first-changed p) n i r → s ≡ set r i x → Written v (first-changed p) n (i + 1) s
+  changed-more p {i = i} d x l h e W is =
+      written-next W x is h
       (ap (map change) (view-more v p i d (omega arith)) ∙ map-append change (map v (take i p)) (v (getD p i d) ∷ []) ∙ ap (λ y. first-changed p i ++ y ∷ []) (sym e))
+
+-- a test of a row so changed is another test of the row
+pub changed-alike : {A B : Type 0} (t : A → B → Bool) (g : A → A) (xs : List A) (ys : List B) → alike (λ x. t (g x)) xs ys ≡ alike t (map g xs) ys
+unfolding alike
+changed-alike t g [] [] = refl
+changed-alike t g [] (y ∷ ys) = refl
+changed-alike t g (x ∷ xs) [] = refl
+changed-alike t g (x ∷ xs) (y ∷ ys) = ap (λ b. t (g x) y && b) (changed-alike t g xs ys)
 
 -- ---- the counter of a level changed
 

@@ -5,10 +5,7 @@ use lib.ListN.{getD}
 use lib.IntN.{ℤ}
 use Rattle.forms.specs.Form as F
 use Rattle.forms.specs.Code.{Within}
-use Rattle.forms.specs.declared.Form.{Form}
-use Rattle.check_ledger.specs.View.{zero-form, nothing}
-use Rattle.check_ledger.specs.declared.Held.{Held}
-use Rattle.check_ledger.specs.declared.Ledger.{Ledger}
+use Rattle.check_ledger.specs.View.{Whole, positions, buffers, zero-form, nothing}
 use Rattle.check_rows.specs.declared.Change.{Change}
 use Rattle.check_rows.specs.declared.Change.the-variants.{At, By}
 
@@ -21,12 +18,8 @@ unfoldable pub amount : Change → ℤ
 amount (At c) = c
 amount (By step) = step
 
-abbrev pub StatedForms : List Form → Type 0
-StatedForms p = (q : ℕ) → Within (2 ^ 20) (2 ^ 20) (getD p q zero-form)
-
-abbrev pub StatedHeld : List Held → Type 0
-StatedHeld p = (b : ℕ) → Within (2 ^ 20) (2 ^ 20) (getD p b nothing .index)
-
-pub record Stated (rows : Ledger) : Type 0 where
-  pub at-position : StatedForms (rows .positions)
-  pub at-buffer : StatedHeld (rows .held)
+-- a ledger of which every form is as small as those of a file
+pub record Stated (rows : List ℤ) : Type 0 where
+  pub whole : Whole rows
+  pub at-position : (q : ℕ) → Within (2 ^ 20) (2 ^ 20) (getD (positions rows) q zero-form)
+  pub at-buffer : (b : ℕ) → Within (2 ^ 20) (2 ^ 20) (getD (buffers rows) b nothing .index)

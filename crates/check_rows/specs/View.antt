@@ -4,12 +4,12 @@ use mathlib.Core.Path.{_≡_}
 use mathlib.Core.Bool.{Bool, _&&_}
 use mathlib.Core.List.{List}
 use lib.ListN.{length, getD, drop}
+use lib.IntN.{ℤ}
 use Rattle.kernel.specs.File.{Rec, form, nothing, Kernel, position-row, buffer-row}
 use Rattle.kernel.specs.Guarantees.{FormSmall}
 use Rattle.kernel.specs.Derivation.{Place, hold-rows, stated}
 use Rattle.kernel.specs.Check.{in-order}
 use Rattle.check_ledger.specs.View.{ledger}
-use Rattle.check_ledger.specs.declared.Ledger.{Ledger}
 
 -- the rows of a for stand from record `from` on: its arrays', then its buffers'
 abbrev pub rows-fit-from : (level from arrays buffers : ℕ) → List Rec → Bool
@@ -20,7 +20,7 @@ pub record SmallForms (rs : List Rec) : Type 0 where
   pub at-record : (i : ℕ) → FormSmall (form (getD rs i nothing))
 
 -- l is what the rows after the for at record `rule` state, in a kernel with this derivation and so many arrays and buffers
-abbrev pub FromRows : (rs : List Rec) (rule arrays buffers : ℕ) → Ledger → Type 0
+abbrev pub FromRows : (rs : List Rec) (rule arrays buffers : ℕ) → List ℤ → Type 0
 FromRows rs rule arrays buffers l =
     (K : Kernel) (c : Place) → K .derivation ≡ rs → length (K .arrays) ≡ arrays → K .buffers ≡ buffers → c .rule ≡ rule
     → ledger arrays buffers l ≡ stated K (hold-rows K c)

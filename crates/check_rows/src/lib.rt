@@ -1,6 +1,6 @@
-// Hold rows: whether they fit, the ledger that they state, a counter put or moved in them, and whether they are true.
+// Hold rows: whether they fit, the ledger that they state, and, with a counter put or moved in them, whether they are true and what they leave.
+use check_ledger::Entries;
 use check_ledger::Held;
-use check_ledger::Ledger;
 use forms::Form;
 use forms::Loops;
 use parts::Part;
@@ -10,7 +10,7 @@ ghost use mathlib.Core.Bool.{_&&_};
 ghost use mathlib.Core.List.{map};
 ghost use Prim.Native.Nat.{ℕ, _+_, _^_, _≤_};
 ghost use lib.Dec.{eqb};
-ghost use lib.ListN.{getD, take, drop};
+ghost use lib.ListN.{take, drop};
 ghost use Rattle.numbers.specs.Bounds.{Small};
 ghost use Rattle.numbers.specs.Lists.{alike};
 ghost use Rattle.forms.specs.Form as F;
@@ -22,8 +22,9 @@ ghost use Rattle.kernel.specs.Check as Check;
 ghost use Rattle.parts.specs.Records.{rec};
 ghost use Rattle.parts.specs.Parts.{records-in, Lies};
 ghost use Rattle.check_ledger.specs.View as View;
+ghost use Rattle.check_ledger.specs.View.{Whole, Bounded};
 ghost use Rattle.check_rows.specs.View.{rows-fit-from, SmallForms, FromRows};
-ghost use Rattle.check_rows.specs.Changes.{amount, with-change, StatedForms, StatedHeld, Stated};
+ghost use Rattle.check_rows.specs.Changes.{amount, with-change, Stated};
 
 // ---- do they fit
 
@@ -96,60 +97,49 @@ fn row_held(r: Rec) -> Held
     if r.q == kernel::codes::MINUS_ONE {
         return Held { number: 0, index };
     }
-    let number = (r.q as usize) + 1;
+    let number = check_ledger::number_of(r.q as usize);
     Held { number, index }
 }
 
-// The positions that n rows from record `from` on state.
-fn positions(file: &[u8], part: Part, from: usize, n: usize) -> [Form; 8]
-    requires { ⌜ Lies 1024 (now file) part × (from + n ≤ part .count) × (n ≤ 8) × SmallForms (records-in (now file) part) ⌝ }
-    ensures { λ r. ⌜ (map form (take n r) ≡ map File.form (take n (drop from (records-in (now (file .entry)) part)))) × StatedForms r ⌝ }
+// The first n positions become those that rows from record `from` on state.
+fn positions(file: &[u8], part: Part, from: usize, n: usize, rows: &mut Entries)
+    requires { ⌜ Lies 1024 (now file) part × (from + n ≤ part .count) × (n ≤ 8) × SmallForms (records-in (now file) part) × Stated (now rows) ⌝ }
+    ensures { λ _. ⌜ (map form (take n (View.positions (now (rows .exit)))) ≡ map File.form (take n (drop from (records-in (now (file .entry)) part)))) × Stated (now (rows .exit)) ⌝ }
 {
-    let zero = Form::constant(0);
-    let mut r = [zero; 8];
     let mut i = 0;
     while i < n {
         let row = parts::record_in(file, part, from + i);
-        r[i] = parts::form_of(row);
+        check_ledger::put_position(rows, i, parts::form_of(row));
         i += 1;
     }
-    r
 }
 
-// The buffers that n rows from record `from` on state.
-fn buffers(file: &[u8], part: Part, from: usize, n: usize) -> [Held; 16]
-    requires { ⌜ Lies 1024 (now file) part × (from + n ≤ part .count) × (n ≤ 16) × SmallForms (records-in (now file) part) ⌝ }
-    ensures { λ r. ⌜ (map View.held (take n r) ≡ map Derivation.row-held (take n (drop from (records-in (now (file .entry)) part)))) × StatedHeld r ⌝ }
+// The first n buffers become what rows from record `from` on state.
+fn buffers(file: &[u8], part: Part, from: usize, n: usize, rows: &mut Entries)
+    requires { ⌜ Lies 1024 (now file) part × (from + n ≤ part .count) × (n ≤ 16) × SmallForms (records-in (now file) part) × Stated (now rows) ⌝ }
+    ensures { λ _. ⌜ (map View.held (take n (View.buffers (now (rows .exit)))) ≡ map Derivation.row-held (take n (drop from (records-in (now (file .entry)) part)))) × (View.positions (now (rows .exit)) ≡ View.positions (now (rows .entry))) × Stated (now (rows .exit)) ⌝ }
 {
-    let zero = Form::constant(0);
-    let nothing = Held {
-        number: 0,
-        index: zero,
-    };
-    let mut r = [nothing; 16];
     let mut i = 0;
     while i < n {
         let row = parts::record_in(file, part, from + i);
-        r[i] = row_held(row);
+        check_ledger::put_buffer(rows, i, row_held(row));
         i += 1;
     }
-    r
 }
 
-// What the rows after the for at record `rule` of the derivation state.
-pub fn stated(file: &[u8], part: Part, rule: usize, a: usize, b: usize) -> Ledger
-    requires { ⌜ Lies 1024 (now file) part × (rule + 1 + a + b ≤ part .count) × (a ≤ 8) × (b ≤ 16) × SmallForms (records-in (now file) part) ⌝ }
-    ensures { λ r. ⌜ FromRows (records-in (now (file .entry)) part) rule a b r × Stated r ⌝ }
+// The ledger that the rows after the for at record `rule` of the derivation state.
+pub fn state(file: &[u8], part: Part, rule: usize, a: usize, b: usize, rows: &mut Entries)
+    requires { ⌜ Lies 1024 (now file) part × (rule + 1 + a + b ≤ part .count) × (a ≤ 8) × (b ≤ 16) × SmallForms (records-in (now file) part) × Stated (now rows) ⌝ }
+    ensures { λ _. ⌜ FromRows (records-in (now (file .entry)) part) rule a b (now (rows .exit)) × Stated (now (rows .exit)) ⌝ }
 {
-    let positions = positions(file, part, rule + 1, a);
-    let held = buffers(file, part, rule + 1 + a, b);
-    Ledger { positions, held }
+    positions(file, part, rule + 1, a, rows);
+    buffers(file, part, rule + 1 + a, b, rows);
 }
 
 // ---- the counter of a level changed in them
 
 // The counter is put at a value, or goes a step on.
-enum Change {
+pub enum Change {
     At(i64),
     By(i64),
 }
@@ -178,76 +168,62 @@ fn held_changed(h: Held, level: usize, change: Change) -> Held
     }
 }
 
-// The first a positions changed; bounds are kept of all.
-fn positions_changed(p: [Form; 8], level: usize, change: Change, a: usize) -> [Form; 8]
-    requires { ⌜ StatedForms p × Small (2 ^ 16) (amount change) × (a ≤ 8) ⌝ }
-    ensures { λ r. ⌜ (map form (take a r) ≡ map (with-change level change) (map form (take a p))) × ((q : ℕ) → Within (2 ^ 37) (2 ^ 20) (getD r q View.zero-form)) ⌝ }
+// ---- are they true, so changed, with these loops around
+
+// Whether each of the first a position rows equals the ledger.
+fn positions_true(
+    rows: &Entries,
+    l: &Entries,
+    level: usize,
+    change: Change,
+    a: usize,
+    around: Loops,
+) -> bool
+    requires { ⌜ Stated (now rows) × Small (2 ^ 16) (amount change) × (a ≤ 8) ⌝ }
+    ensures { λ r. ⌜ ((b : ℕ) → r ≡ L.same-positions (loops around) (L.each (with-change level change) (View.ledger a b (now (rows .entry)))) (View.ledger a b (now (l .entry)))) ⌝ }
 {
-    let mut r = p;
     let mut i = 0;
     while i < a {
-        let f = p[i];
-        r[i] = changed(f, level, change);
+        let f = check_ledger::position(rows, i);
+        let g = check_ledger::position(l, i);
+        let next = changed(f, level, change);
+        if !next.same(g, around) {
+            return false;
+        }
         i += 1;
     }
-    r
+    true
 }
 
-// The first b buffers changed.
-fn buffers_changed(p: [Held; 16], level: usize, change: Change, b: usize) -> [Held; 16]
-    requires { ⌜ StatedHeld p × Small (2 ^ 16) (amount change) × (b ≤ 16) ⌝ }
-    ensures { λ r. ⌜ map View.held (take b r) ≡ map (L.each-held (with-change level change)) (map View.held (take b p)) ⌝ }
+// Whether a buffer row is nothing or what the buffer holds; nothing is not changed.
+fn row_true(row: Held, h: Held, level: usize, change: Change, around: Loops) -> bool
+    requires { ⌜ Within (2 ^ 20) (2 ^ 20) (row .index) × Small (2 ^ 16) (amount change) ⌝ }
+    ensures { λ r. ⌜ r ≡ L.row-true (loops around) (L.each-held (with-change level change) (View.held row)) (View.held h) ⌝ }
 {
-    let mut r = p;
-    let mut i = 0;
-    while i < b {
-        let h = p[i];
-        r[i] = held_changed(h, level, change);
-        i += 1;
+    if row.number <= 0 {
+        return true;
     }
-    r
+    let next = held_changed(row, level, change);
+    check_ledger::row_true(next, h, around)
 }
-
-// The rows changed.
-fn all_changed(rows: Ledger, level: usize, change: Change, a: usize, b: usize) -> Ledger
-    requires { ⌜ Stated rows × Small (2 ^ 16) (amount change) × (a ≤ 8) × (b ≤ 16) ⌝ }
-    ensures { λ r. ⌜ (View.ledger a b r ≡ L.each (with-change level change) (View.ledger a b rows)) × View.Bounded 0 r ⌝ }
-{
-    let p = rows.positions;
-    let h = rows.held;
-    let positions = positions_changed(p, level, change, a);
-    let held = buffers_changed(h, level, change, b);
-    Ledger { positions, held }
-}
-
-// The rows with the counter of a level put at c.
-pub fn put_at(rows: Ledger, level: usize, c: i64, a: usize, b: usize) -> Ledger
-    requires { ⌜ Stated rows × Small (2 ^ 16) c × (a ≤ 8) × (b ≤ 16) ⌝ }
-    ensures { λ r. ⌜ (View.ledger a b r ≡ L.each (F.put-at level c) (View.ledger a b rows)) × View.Bounded 0 r ⌝ }
-{
-    all_changed(rows, level, Change::At(c), a, b)
-}
-
-// The rows with the counter of a level one step on.
-pub fn moved_by(rows: Ledger, level: usize, step: i64, a: usize, b: usize) -> Ledger
-    requires { ⌜ Stated rows × Small (2 ^ 16) step × (a ≤ 8) × (b ≤ 16) ⌝ }
-    ensures { λ r. ⌜ View.ledger a b r ≡ L.each (F.moved-by level step) (View.ledger a b rows) ⌝ }
-{
-    all_changed(rows, level, Change::By(step), a, b)
-}
-
-// ---- are they true, with these loops around
 
 // Whether each of the first b buffer rows is nothing or what its buffer holds.
-fn buffer_rows_true(rows: [Held; 16], held: [Held; 16], b: usize, around: Loops) -> bool
-    requires { ⌜ b ≤ 16 ⌝ }
-    ensures { λ r. ⌜ r ≡ alike (L.row-true (loops around)) (map View.held (take b rows)) (map View.held (take b held)) ⌝ }
+fn buffers_true(
+    rows: &Entries,
+    l: &Entries,
+    level: usize,
+    change: Change,
+    b: usize,
+    around: Loops,
+) -> bool
+    requires { ⌜ Stated (now rows) × Small (2 ^ 16) (amount change) × (b ≤ 16) ⌝ }
+    ensures { λ r. ⌜ r ≡ alike (L.row-true (loops around)) (map (L.each-held (with-change level change)) (map View.held (take b (View.buffers (now (rows .entry)))))) (map View.held (take b (View.buffers (now (l .entry))))) ⌝ }
 {
     let mut i = 0;
     while i < b {
-        let row = rows[i];
-        let h = held[i];
-        if !check_ledger::row_true(row, h, around) {
+        let row = check_ledger::buffer(rows, i);
+        let h = check_ledger::buffer(l, i);
+        if !row_true(row, h, level, change, around) {
             return false;
         }
         i += 1;
@@ -256,14 +232,57 @@ fn buffer_rows_true(rows: [Held; 16], held: [Held; 16], b: usize, around: Loops)
 }
 
 // Whether each position row equals the ledger and each buffer row is nothing or equals it.
-pub fn rows_true(rows: Ledger, l: Ledger, a: usize, b: usize, around: Loops) -> bool
-    requires { ⌜ (a ≤ 8) × (b ≤ 16) ⌝ }
-    ensures { λ r. ⌜ r ≡ L.rows-true (loops around) (View.ledger a b rows) (View.ledger a b l) ⌝ }
+pub fn rows_true(
+    rows: &Entries,
+    l: &Entries,
+    level: usize,
+    change: Change,
+    a: usize,
+    b: usize,
+    around: Loops,
+) -> bool
+    requires { ⌜ Stated (now rows) × Small (2 ^ 16) (amount change) × (a ≤ 8) × (b ≤ 16) ⌝ }
+    ensures { λ r. ⌜ r ≡ L.rows-true (loops around) (L.each (with-change level change) (View.ledger a b (now (rows .entry)))) (View.ledger a b (now (l .entry))) ⌝ }
 {
-    if !check_ledger::same_positions(rows, l, a, around) {
+    if !positions_true(rows, l, level, change, a, around) {
         return false;
     }
-    let p = rows.held;
-    let q = l.held;
-    buffer_rows_true(p, q, b, around)
+    buffers_true(rows, l, level, change, b, around)
+}
+
+// ---- what they leave, so changed
+
+// The first a positions of a ledger become those of the rows.
+fn positions_left(rows: &Entries, level: usize, change: Change, a: usize, l: &mut Entries)
+    requires { ⌜ Stated (now rows) × Small (2 ^ 16) (amount change) × (a ≤ 8) × ((n : ℕ) × Bounded n (now l)) ⌝ }
+    ensures { λ _. ⌜ (map form (take a (View.positions (now (l .exit)))) ≡ map (with-change level change) (map form (take a (View.positions (now (rows .entry)))))) × ((n : ℕ) → Bounded n (now (l .entry)) → Bounded n (now (l .exit))) ⌝ }
+{
+    let mut i = 0;
+    while i < a {
+        let f = check_ledger::position(rows, i);
+        check_ledger::put_position(l, i, changed(f, level, change));
+        i += 1;
+    }
+}
+
+// The first b buffers of a ledger become what those of the rows hold.
+fn buffers_left(rows: &Entries, level: usize, change: Change, b: usize, l: &mut Entries)
+    requires { ⌜ Stated (now rows) × Small (2 ^ 16) (amount change) × (b ≤ 16) × Whole (now l) ⌝ }
+    ensures { λ _. ⌜ (map View.held (take b (View.buffers (now (l .exit)))) ≡ map (L.each-held (with-change level change)) (map View.held (take b (View.buffers (now (rows .entry)))))) × (View.positions (now (l .exit)) ≡ View.positions (now (l .entry))) × Whole (now (l .exit)) ⌝ }
+{
+    let mut i = 0;
+    while i < b {
+        let h = check_ledger::buffer(rows, i);
+        check_ledger::put_buffer(l, i, held_changed(h, level, change));
+        i += 1;
+    }
+}
+
+// A ledger becomes that of the rows.
+pub fn rows_left(rows: &Entries, level: usize, change: Change, a: usize, b: usize, l: &mut Entries)
+    requires { ⌜ Stated (now rows) × Small (2 ^ 16) (amount change) × (a ≤ 8) × (b ≤ 16) × ((n : ℕ) × Bounded n (now l)) ⌝ }
+    ensures { λ _. ⌜ (View.ledger a b (now (l .exit)) ≡ L.each (with-change level change) (View.ledger a b (now (rows .entry)))) × ((n : ℕ) → Bounded n (now (l .entry)) → Bounded n (now (l .exit))) ⌝ }
+{
+    positions_left(rows, level, change, a, l);
+    buffers_left(rows, level, change, b, l);
 }

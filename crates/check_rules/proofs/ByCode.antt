@@ -1,6 +1,7 @@
 -- The rules by their codes, as the code goes: an arm for each, and what is left for the last.
 use Prim.Native.Nat.{ℕ, zero, suc, _-_, _≤_, _<_}
 use mathlib.Core.Path.{_≡_, refl, sym, ap, subst}
+use mathlib.Core.Bool.{true, false}
 use mathlib.Core.Logic.{_⊎_, inl, inr}
 use mathlib.Core.List.{List}
 use mathlib.Core.Option.{Option}
@@ -10,7 +11,7 @@ use Rattle.kernel.specs.File.{Rec, Kernel}
 use Rattle.kernel.specs.Ledger.{Held, Ledger, passed, read-step, write-step}
 use Rattle.kernel.specs.Derivation.{Rule, same-rule, read-rule, fill-rule, use-rule, move-rule, write-rule, rule}
 use Rattle.parts.specs.declared.Counts.{Counts}
-use Rattle.check_rules.specs.View.{Named, stream-of, buffer-of, next-item, asked, stepped, arrays-taken}
+use Rattle.check_rules.specs.View.{Named, stream-of, buffer-of, next-item, asked, stepped, steps, arrays-taken}
 use Rattle.check_rules.proofs.Effects.{by-code}
 
 -- rules 2 and 6
@@ -38,6 +39,18 @@ module _ {n : ℕ} where
   unfolding rule
   item-at (inl e) = inl (ap rule e)
   item-at (inr e) = inr (ap rule e)
+
+-- ---- whether it changes the ledger
+
+pub steps-not : (n : ℕ) → (n ≡ 1) ⊎ (n ≡ 4) → false ≡ steps (rule n)
+unfolding rule steps
+steps-not n (inl e) = sym (ap (λ n. steps (rule n)) e)
+steps-not n (inr e) = sym (ap (λ n. steps (rule n)) e)
+
+pub steps-on : (n : ℕ) → ((n ≡ 1) ⊎ (n ≡ 4) → ⊥) → true ≡ steps (rule n)
+unfolding steps
+steps-on = by-code (λ n r. ((n ≡ 1) ⊎ (n ≡ 4) → ⊥) → true ≡ steps r)
+    (λ h. absurd (h (inl refl))) (λ h. refl) (λ h. refl) (λ h. absurd (h (inr refl))) (λ h. refl) (λ h. refl) (λ h. refl) (λ h. refl) (λ h. refl) (λ h. refl) (λ n h. refl)
 
 -- ---- statements of the array program taken
 

@@ -1,11 +1,12 @@
 -- What a rule that opens and closes no block comes to: by its line of the table, what it asks of the ledger's entries and then its step.
 use Prim.Native.Nat.{ℕ, zero, suc, _+_, _≤_, _<_}
 use mathlib.Core.Path.{_≡_, refl, sym, ap}
-use mathlib.Core.Bool.{Bool, true, false, cond}
+use mathlib.Core.Bool.{Bool, true, false, cond, false≢true}
 use mathlib.Core.List.{List}
 use mathlib.Core.Option.{Option}
 use native.Mathlib.Omega.{arith}
 use native.Mathlib.Numerals.{add-one}
+use lib.IntN.{ℤ, pos}
 use lib.ListN.{getD}
 use borrow.Author.Tests.{eq-eqb, ne-eqb}
 use Rattle.numbers.specs.Result.{Result, ok, stop, _>>=_, need}
@@ -18,11 +19,10 @@ use Rattle.kernel.specs.Check as Check
 use Rattle.kernel.specs.Derivation.{Place, went, buffer, Rule, same-rule, read-rule, fill-rule, use-rule, move-rule, write-rule, for-rule, if-rule, else-rule, end-rule, no-rule, rule}
 use Rattle.kernel.specs.File as File
 use Rattle.parts.specs.declared.Counts.{Counts}
-use Rattle.check_ledger.specs.declared.Ledger.{Ledger}
-use Rattle.check_ledger.specs.View.{numbered, held, ledger, zero-form, nothing, Bounded}
-use Rattle.check_ledger.proofs.Bounds.{within-wider}
+use Rattle.check_ledger.specs.View.{positions, buffers, numbered, held, ledger, zero-form, nothing}
+use Rattle.check_ledger.proofs.Bounds.{bounded-wider}
 use Rattle.check_ledger.proofs.Steps.{position-right, holding-right}
-use Rattle.check_rules.specs.View.{Named, stream-of, buffer-of, room-left, next-item, asked, asked-there, answered, stepped, arrays-taken}
+use Rattle.check_rules.specs.View.{Named, stream-of, buffer-of, room-left, next-item, asked, asked-there, answered, stepped, steps, arrays-taken, Steps}
 
 -- the rules at which no block opens or closes
 abbrev pub PlainRule : Rule → Type 0
@@ -65,24 +65,27 @@ pub answers-on : (number : ℕ) → number ≡ 0 → answered number ≡ ok tt
 unfolding answered
 answers-on number z = ap (λ (t : Bool). cond t (ok tt) (stop number)) (eq-eqb number 0 z)
 
--- whether a buffer holds something
-pub holds-nothing : (k : ℕ) (g : Code.Form) → k ≡ 0 → Check.something (numbered k g) ≡ false
-unfolding numbered Check.something
-holds-nothing k g e = ap (λ k. Check.something (numbered k g)) e
-
-pub holds-something : (k : ℕ) (g : Code.Form) → (k ≡ 0 → ⊥) → Check.something (numbered k g) ≡ true
-unfolding numbered Check.something
-holds-something zero g z = absurd (z refl)
-holds-something (suc k) g z = refl
-
 -- a buffer row that states an array and an index form is true where the buffer holds just that
-pub states-held : (around : List Loop) (q : ℕ) (f : Code.Form) (h : Option L.Held) → L.row-true around (numbered (q + 1) f) h ≡ L.holds-just around (L.held q (form f)) h
+pub states-held : (around : List Loop) (q : ℕ) (f : Code.Form) (h : Option L.Held) → L.row-true around (numbered (pos (q + 1)) f) h ≡ L.holds-just around (L.held q (form f)) h
 unfolding numbered L.row-true
-states-held around q f h = ap (λ n. L.row-true around (numbered n f) h) (add-one q)
+states-held around q f h = ap (λ n. L.row-true around (numbered (pos n) f) h) (add-one q)
 
--- bounds a step later
-pub bounded-more : (m : ℕ) (l : Ledger) → Bounded m l → Bounded (m + 1) l
-bounded-more m l h = record { at-position = λ q. within-wider (h .at-position q) (omega arith) (omega arith) }
+-- ---- steps
+
+-- the ledger as it was, where the rule changes nothing
+pub unchanged : (file : List ℕ) (c : Counts) (r : Rule) (a s : Rec) (l : List ℤ) → steps r ≡ false → Steps file c r a s l l
+unfolding steps stepped
+unchanged file c same-rule a s l e = record { as-said = refl; bounded = λ m h. bounded-wider h (omega arith) }
+unchanged file c read-rule a s l e = absurd (false≢true (sym e))
+unchanged file c fill-rule a s l e = absurd (false≢true (sym e))
+unchanged file c use-rule a s l e = record { as-said = refl; bounded = λ m h. bounded-wider h (omega arith) }
+unchanged file c move-rule a s l e = absurd (false≢true (sym e))
+unchanged file c write-rule a s l e = absurd (false≢true (sym e))
+unchanged file c for-rule a s l e = absurd (false≢true (sym e))
+unchanged file c if-rule a s l e = absurd (false≢true (sym e))
+unchanged file c else-rule a s l e = absurd (false≢true (sym e))
+unchanged file c end-rule a s l e = absurd (false≢true (sym e))
+unchanged file c no-rule a s l e = absurd (false≢true (sym e))
 
 -- ---- the effect is the step after what is asked
 
@@ -108,9 +111,9 @@ effect-is K c no-rule a s l = refl
 
 -- ---- of the code's entries
 
-module _ (K : Kernel) (around : List Loop) (c : Counts) (a s : Rec) (l : Ledger) where
+module _ (K : Kernel) (around : List Loop) (c : Counts) (a s : Rec) (l : List ℤ) where
   pub entries : (r : Rule) → Named c r a s
-      → asked K around r a s (form (getD (l .positions) (stream-of r a s) zero-form)) (held (getD (l .held) (buffer-of (c .r) r s) nothing))
+      → asked K around r a s (form (getD (positions l) (stream-of r a s) zero-form)) (held (getD (buffers l) (buffer-of (c .r) r s) nothing))
       ≡ asked K around r a s (L.position (stream-of r a s) (ledger (c .a) (c .b) l)) (L.holding (buffer-of (c .r) r s) (ledger (c .a) (c .b) l))
   unfolding asked stream-of buffer-of
   entries same-rule h = refl

@@ -2,10 +2,11 @@
 -- asks of them, and what it makes of the ledger.
 use Prim.Native.Nat.{ℕ, _+_, _-_, _≤_, _<_}
 use mathlib.Core.Path.{_≡_}
-use mathlib.Core.Bool.{Bool, cond}
+use mathlib.Core.Bool.{Bool, true, false, cond}
 use mathlib.Core.List.{List}
 use mathlib.Core.Option.{Option}
 use lib.Dec.{eqb}
+use lib.IntN.{ℤ}
 use lib.ListN.{length}
 use Rattle.numbers.specs.Result.{Result, ok, stop, _>>=_, need}
 use Rattle.forms.specs.Form.{Form, along, Loop, same, below}
@@ -16,7 +17,6 @@ use Rattle.kernel.specs.Derivation.{Place, loops, buffer, Rule, same-rule, read
 use Rattle.kernel.specs.Check.{something, fits}
 use Rattle.parts.specs.declared.Counts.{Counts}
 use Rattle.parts.specs.Parts.{kernel}
-use Rattle.check_ledger.specs.declared.Ledger as Code
 use Rattle.check_ledger.specs.View.{ledger, Bounded}
 
 -- whether a for fits, at this record of the derivation and with so many loops around
@@ -119,6 +119,20 @@ stepped K else-rule a s L = L
 stepped K end-rule a s L = L
 stepped K no-rule a s L = L
 
+-- whether it changes the ledger
+unfoldable pub steps : Rule → Bool
+steps same-rule = false
+steps read-rule = true
+steps fill-rule = true
+steps use-rule = false
+steps move-rule = true
+steps write-rule = true
+steps for-rule = true
+steps if-rule = true
+steps else-rule = true
+steps end-rule = true
+steps no-rule = true
+
 -- how many statements of the array program it takes: a fill and a move none
 unfoldable pub arrays-taken : Rule → ℕ
 arrays-taken same-rule = 1
@@ -134,6 +148,6 @@ arrays-taken end-rule = 1
 arrays-taken no-rule = 1
 
 -- the code's ledger l becomes r as the rule says, and its positions at most one larger
-pub record Steps (file : List ℕ) (c : Counts) (rule : Rule) (a s : Rec) (l r : Code.Ledger) : Type 0 where
+pub record Steps (file : List ℕ) (c : Counts) (rule : Rule) (a s : Rec) (l r : List ℤ) : Type 0 where
   pub as-said : ledger (c .a) (c .b) r ≡ stepped (kernel file c) rule a s (ledger (c .a) (c .b) l)
   pub bounded : (m : ℕ) → Bounded m l → Bounded (m + 1) r

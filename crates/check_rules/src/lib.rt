@@ -1,4 +1,5 @@
 // A line of the table of rules: whether it fits the next statements of both programs, what it asks of the ledger, and what it makes of it.
+use check_ledger::Entries;
 use check_ledger::Held;
 use check_ledger::Ledger;
 use forms::Form;
@@ -258,7 +259,7 @@ fn fill_asked(file: &[u8], n: usize, s: Rec, position: Form, around: Loops) -> u
 fn use_asked(a: Rec, h: Held, around: Loops) -> u8
     ensures { λ r. ⌜ answered r ≡ need 13 (L.holds-just (loops around) (L.held (rec a .q) (File.form (rec a))) (held h)) ⌝ }
 {
-    let number = (a.q as usize) + 1;
+    let number = check_ledger::number_of(a.q as usize);
     let index = parts::form_of(a);
     let wanted = Held { number, index };
     if !check_ledger::row_true(wanted, h, around) {
@@ -271,7 +272,7 @@ fn use_asked(a: Rec, h: Held, around: Loops) -> u8
 fn move_asked(h: Held) -> u8
     ensures { λ r. ⌜ answered r ≡ need 13 (Check.something (held h)) ⌝ }
 {
-    if h.number == 0 {
+    if h.number <= 0 {
         return kernel::NOT_HELD;
     }
     0
@@ -304,8 +305,8 @@ pub fn asked(
 
 // A fill: the buffer holds the next index of the stream, whose position is then one more.
 fn filled(file: &[u8], c: Counts, s: Rec, l: Ledger) -> Ledger
-    requires { ⌜ ReadAs (now file) c × Named c Derivation.fill-rule (rec s) (rec s) × ((m : ℕ) × Bounded m l × (m ≤ 4096)) ⌝ }
-    ensures { λ r. ⌜ View.Steps (now (file .entry)) c Derivation.fill-rule (rec s) (rec s) l r ⌝ }
+    requires { ⌜ ReadAs (now file) c × Named c Derivation.fill-rule (rec s) (rec s) × ((m : ℕ) × Bounded m (l .entries) × (m ≤ 4096)) ⌝ }
+    ensures { λ r. ⌜ View.Steps (now (file .entry)) c Derivation.fill-rule (rec s) (rec s) (l .entries) (r .entries) ⌝ }
 {
     let q = s.q as usize;
     let first = parts::first_of(file, q);
@@ -314,9 +315,9 @@ fn filled(file: &[u8], c: Counts, s: Rec, l: Ledger) -> Ledger
 }
 
 // What a rule from 1 to 6 makes of the ledger.
-pub fn stepped(file: &[u8], c: Counts, code: u32, a: Rec, s: Rec, l: Ledger) -> Ledger
-    requires { ⌜ ReadAs (now file) c × Named c (Derivation.rule code) (rec a) (rec s) × ((m : ℕ) × Bounded m l × (m ≤ 4096)) ⌝ }
-    ensures { λ r. ⌜ View.Steps (now (file .entry)) c (Derivation.rule code) (rec a) (rec s) l r ⌝ }
+fn stepped(file: &[u8], c: Counts, code: u32, a: Rec, s: Rec, l: Ledger) -> Ledger
+    requires { ⌜ ReadAs (now file) c × Named c (Derivation.rule code) (rec a) (rec s) × ((m : ℕ) × Bounded m (l .entries) × (m ≤ 4096)) ⌝ }
+    ensures { λ r. ⌜ View.Steps (now (file .entry)) c (Derivation.rule code) (rec a) (rec s) (l .entries) (r .entries) ⌝ }
 {
     match code {
         kernel::codes::READ_RULE | kernel::codes::WRITE_RULE => l.passed(a.q as usize),
@@ -324,6 +325,27 @@ pub fn stepped(file: &[u8], c: Counts, code: u32, a: Rec, s: Rec, l: Ledger) -> 
         kernel::codes::MOVE_RULE => l.moved((s.p as usize) - c.r, (s.q as usize) - c.r),
         _ => l,
     }
+}
+
+// Whether it changes the ledger: all but same and use.
+pub fn steps(code: u32) -> bool
+    ensures { λ r. ⌜ r ≡ View.steps (Derivation.rule code) ⌝ }
+{
+    match code {
+        kernel::codes::SAME_RULE | kernel::codes::USE_RULE => false,
+        _ => true,
+    }
+}
+
+// The lent ledger becomes what a rule from 1 to 6 makes of it.
+pub fn step(file: &[u8], c: Counts, code: u32, a: Rec, s: Rec, l: &mut Entries)
+    requires { ⌜ ReadAs (now file) c × Named c (Derivation.rule code) (rec a) (rec s) × ((m : ℕ) × Bounded m (now l) × (m ≤ 4096)) ⌝ }
+    ensures { λ _. ⌜ View.Steps (now (file .entry)) c (Derivation.rule code) (rec a) (rec s) (now (l .entry)) (now (l .exit)) ⌝ }
+{
+    let entries = *l;
+    let next = stepped(file, c, code, a, s, Ledger { entries });
+    let after = next.entries;
+    *l = after;
 }
 
 // How many statements of the array program it takes.

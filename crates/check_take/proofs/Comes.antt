@@ -3,6 +3,7 @@ use Prim.Native.Nat.{ℕ}
 use mathlib.Core.Path.{_≡_, refl, sym, ap, _∙_}
 use mathlib.Core.Bool.{Bool, true, false}
 use mathlib.Core.List.{List}
+use lib.IntN.{ℤ}
 use Rattle.numbers.specs.Result.{Result, ok, stop, _>>=_, need}
 use Rattle.kernel.specs.Derivation as Derivation
 use Rattle.kernel.specs.Derivation.{Opened, went, rule}
@@ -10,10 +11,9 @@ use Rattle.kernel.specs.Check as Check
 use Rattle.kernel.specs.Check.{take-rule}
 use Rattle.parts.specs.declared.Counts.{Counts}
 use Rattle.parts.proofs.Parts.{K}
-use Rattle.check_ledger.specs.declared.Ledger.{Ledger}
 use Rattle.check_ledger.specs.View.{ledger}
 use Rattle.check_rules.specs.View.{asked-there, answered, stepped, arrays-taken}
-use Rattle.check_rules.proofs.Effects.{PlainRule, need-fails, need-holds, answers-stop, answers-on, effect-is}
+use Rattle.check_rules.proofs.Effects.{PlainRule, need-fails, need-holds, effect-is}
 use Rattle.check_take.specs.declared.Place.{Place}
 use Rattle.check_take.specs.View.{place, rule-code, array-there, stream-there, fits-there}
 
@@ -24,7 +24,7 @@ need-either number true x e = e
 need-either number false x e = refl
 
 -- the rule there, with os open
-module _ (file : List ℕ) (c : Counts) (os : List Opened) (at : Place) (l : Ledger) where
+module _ (file : List ℕ) (c : Counts) (os : List Opened) (at : Place) (l : List ℤ) where
   abbrev pub here : Derivation.Place
   here = place (c .a) (c .b) os at l
 
@@ -58,15 +58,7 @@ module _ (file : List ℕ) (c : Counts) (os : List Opened) (at : Place) (l : Led
     abbrev pub after : Derivation.Place
     after = went 1 (arrays-taken (rule code)) 1 os (stepped (K file c) (rule code) (array-there file c at) (stream-there file c at) (ledger (c .a) (c .b) l)) here
 
-    comes : Comes (answered number >>= λ _. ok after)
+    pub comes : Comes (answered number >>= λ _. ok after)
     comes =
         fit code e f
         ∙ ap (Check.at here) (effect-is (K file c) here (rule code) (array-there file c at) (stream-there file c at) level ∙ ap (λ x. x >>= λ _. ok after) (sym asks))
-
-    pub asked-stops : (number ≡ 0 → ⊥) → Comes (stop number)
-    unfolding _>>=_
-    asked-stops z = comes ∙ ap (λ x. Check.at here (x >>= λ _. ok after)) (answers-stop number z)
-
-    pub asked-goes : number ≡ 0 → Comes (ok after)
-    unfolding _>>=_
-    asked-goes z = comes ∙ ap (λ x. Check.at here (x >>= λ _. ok after)) (answers-on number z)

@@ -5,7 +5,7 @@ use mathlib.Core.Bool.{Bool, true, _&&_, false≢true}
 use mathlib.Core.List.{List, [], _∷_, _++_}
 use native.Mathlib.Omega.{arith}
 use native.Mathlib.Decide.{decLt}
-use lib.IntN.{pos, natAbs}
+use lib.IntN.{ℤ, pos, natAbs}
 use lib.ListN.{length, getD, take, drop, length-append, length-take, length-drop, List·getD-eq-default}
 use Rattle.numbers.specs.Result.{ok, _>>=_, need, because}
 use Rattle.numbers.specs.Words.{signed}
@@ -27,14 +27,12 @@ use Rattle.kernel.proofs.Sayings.{says-for, fits-at, there-at}
 use Rattle.parts.specs.declared.Counts.{Counts}
 use Rattle.parts.specs.Parts.{kernel, records-in, ReadAs, derivation-part}
 use Rattle.check_rows.proofs.Rows.{row}
-use Rattle.check_ledger.specs.declared.Ledger.{Ledger}
 use Rattle.check_ledger.specs.View.{ledger, Bounded}
 use Rattle.check_ledger.proofs.Bounds.{within-wider}
 use Rattle.check_rows.specs.Changes.{Stated}
 use Rattle.check_rows.specs.View.{SmallForms}
 use Rattle.check_take.specs.declared.Place.{Place}
-use Rattle.check_take.specs.declared.Taken.{Taken}
-use Rattle.check_take.specs.View.{taken, Stood, Onward, array-there, stream-there, loop-there, TakesRule, ReadsOn, Enters}
+use Rattle.check_take.specs.View.{Taken, taken, Stood, Onward, array-there, stream-there, loop-there, TakesRule, ReadsOn, Enters}
 use Rattle.parts.proofs.Parts.{reads, arrays-count, buffers-are, rule-count, derivation-is}
 use Rattle.check_take.proofs.Comes.{here, Fitting, Effect, Comes}
 use Rattle.check_take.proofs.Going.{one-further}
@@ -108,15 +106,15 @@ module _ (file : List ℕ) (c : Counts) (e : ReadAs file c) where
   pub small-forms : SmallForms (records-in file (derivation-part c))
   small-forms = subst SmallForms (derivation-is file c) (record { at-record = λ i. small-form i (decLt i (length rs)) })
 
-pub stated-bounded : (n : ℕ) (l : Ledger) → Stated l → Bounded n l
-stated-bounded n l h = record { at-position = λ q. within-wider (h .at-position q) (omega arith) (omega arith) }
+pub stated-bounded : (n : ℕ) (l : List ℤ) → Stated l → Bounded n l
+stated-bounded n l h = record { whole = h .whole; at-position = λ q. within-wider (h .at-position q) (omega arith) (omega arith) }
 
 -- ---- after a for and its rows
 
-abbrev pub entered : Counts → Place → Ledger → Taken
+abbrev pub entered : Counts → Place → List ℤ → Taken
 entered c at rows = record { number = 0; at = record { rule = at .rule + 1 + c .a + c .b; array = at .array + 1; stream = at .stream + 1 }; ledger = rows }
 
-module _ (file : List ℕ) (c : Counts) (at : Place) (l : Ledger) where
+module _ (file : List ℕ) (c : Counts) (at : Place) (l : List ℤ) where
   abbrev K : Kernel
   K = kernel file c
 
@@ -142,7 +140,7 @@ module _ (file : List ℕ) (c : Counts) (at : Place) (l : Ledger) where
     for-enters level around rows e g f =
         λ i. need 14 (L.rows-true (g i) (L.each (F.put-at (e i) (loop-there file c at .first)) (sym f i)) (ledger (c .a) (c .b) l)) >>= λ _. ok (went (suc (Derivation.row-count K)) 1 1 (Derivation.in-for (loop-there file c at) (sym f i) ∷ os) (sym f i) (here file c os at l))
 
-    pub went-in : (os′ : List Opened) (m : Ledger) → Comes file c os at l (ok (went (suc (Derivation.row-count K)) 1 1 os′ (ledger (c .a) (c .b) m) (here file c os at l))) → TakesRule file c os at l os′ (entered c at m)
+    pub went-in : (os′ : List Opened) (m : List ℤ) → Comes file c os at l (ok (went (suc (Derivation.row-count K)) 1 1 os′ (ledger (c .a) (c .b) m) (here file c os at l))) → TakesRule file c os at l os′ (entered c at m)
     unfolding taken Check.at because went Derivation.row-count
     went-in os′ m t =
         let q : at .rule + 1 + c .a + c .b ≡ at .rule + suc (length (K .arrays) + K .buffers) = omega (arith, arrays-count file c, buffers-are file c) in
@@ -164,13 +162,13 @@ module _ (file : List ℕ) (c : Counts) (at : Place) (l : Ledger) where
       pub loop-fits : ReadAs file c → LoopFits (loop-there file c at)
       loop-fits e = subst (StatementFits (array-scope K)) (says-for a for-code) (fits-at (reads file c e .array-program) (at .array) (there-at (K .array-program) (at .array) (omega (arith, for-code))))
 
-      pub for-onward : (m : Ledger) → Stood c at l → at .rule < c .d → Stated m → Onward c at (entered c at m)
+      pub for-onward : (m : List ℤ) → Stood c at l → at .rule < c .d → Stated m → Onward c at (entered c at m)
       for-onward m g d k = record {
         stood = record { rules = rows-there d; arrays = omega (arith, g .arrays); streams = omega (arith, g .streams); bounded = stated-bounded _ m k };
         further-on = omega arith;
       }
 
-      pub enters : (m : Ledger) → (opens : List Open) → ReadsOn file c opens at → Enters file c opens at (entered c at m .at)
+      pub enters : (m : List ℤ) → (opens : List Open) → ReadsOn file c opens at → Enters file c opens at (entered c at m .at)
       unfolding open-loops
       enters m opens n =
           let (fits, room, more) = read-for (array-scope K) (K .array-program) (at .array) n (says-for a for-code) in

@@ -5,6 +5,7 @@ use mathlib.Core.Bool.{true, false≢true}
 use mathlib.Core.List.{List, _∷_}
 use native.Mathlib.Omega.{arith}
 use lib.ListN.{getD, drop}
+use lib.IntN.{ℤ}
 use Rattle.numbers.proofs.Tests.{and-left}
 use Rattle.kernel.specs.File.{Rec, nothing, ifs, elses, ends}
 use Rattle.kernel.specs.Reading.{Scope, array-scope, Open, open-for, open-if, open-else}
@@ -17,19 +18,17 @@ use Rattle.kernel.proofs.Fronts.{read-plain, read-if, read-else, read-end-for, 
 use Rattle.kernel.proofs.Sayings.{says-if, says-else, says-end, there-at}
 use Rattle.parts.specs.declared.Counts.{Counts}
 use Rattle.parts.specs.Parts.{kernel}
-use Rattle.check_ledger.specs.declared.Ledger.{Ledger}
 use Rattle.check_ledger.specs.View.{Bounded}
 use Rattle.check_rules.specs.View.{arrays-taken}
 use Rattle.check_rules.proofs.Effects.{PlainRule}
 use Rattle.check_take.specs.declared.Place.{Place}
-use Rattle.check_take.specs.declared.Taken.{Taken}
-use Rattle.check_take.specs.View.{past, Stood, Onward, ReadsOn, array-there, stream-there}
+use Rattle.check_take.specs.View.{Taken, past, Stood, Onward, ReadsOn, array-there, stream-there}
 use Rattle.check_take.proofs.Comes.{Fitting}
 use Rattle.check_take.proofs.Statements.{passing}
 
 -- ---- where the derivation stands
 
-pub onward : (c : Counts) (at : Place) (l : Ledger) (r : Taken) (arrays : ℕ) (m : Ledger) → arrays ≤ 1 → Stood c at l → at .rule < c .d → Bounded (at .rule + 1) m → r ≡ past at arrays m → Onward c at r
+pub onward : (c : Counts) (at : Place) (l : List ℤ) (r : Taken) (arrays : ℕ) (m : List ℤ) → arrays ≤ 1 → Stood c at l → at .rule < c .d → Bounded (at .rule + 1) m → r ≡ past at arrays m → Onward c at r
 onward c at l r arrays m few s h b e =
     subst (Onward c at) (sym e) (record {
       stood = record { rules = omega arith; arrays = omega (arith, s .arrays); streams = omega (arith, s .streams); bounded = b };
@@ -98,7 +97,7 @@ module _ (file : List ℕ) (c : Counts) (at : Place) (opens : List Open) (n : Re
   rule-reads no-rule l h = absurd (false≢true h)
 
 -- after a rule that opens or closes a block: the code of its statement, where it fits
-module _ (file : List ℕ) (c : Counts) (os : List Derivation.Opened) (at : Place) (l : Ledger) where
+module _ (file : List ℕ) (c : Counts) (os : List Derivation.Opened) (at : Place) (l : List ℤ) where
   abbrev a : Rec
   a = array-there file c at
 
@@ -123,7 +122,7 @@ module _ (file : List ℕ) (c : Counts) (os : List Derivation.Opened) (at : Plac
   abbrev rs : List Rec
   rs = kernel file c .array-program
 
-  module _ (m : Ledger) (r : Taken) (e : r ≡ past at 1 m) where
+  module _ (m : List ℤ) (r : Taken) (e : r ≡ past at 1 m) where
     after-it : (opens : List Open) → Nested scope opens (drop (suc (at .array)) rs) → ReadsOn file c opens (r .at)
     after-it opens n = subst (λ (r : Taken). ReadsOn file c opens (r .at)) (sym e) (one-further scope rs (at .array) n)
 

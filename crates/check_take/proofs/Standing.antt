@@ -1,17 +1,16 @@
--- Where the check stands no number is large, and forms stay as small as they were.
+-- Where the check stands no number is large.
 use Prim.Native.Nat.{ℕ, _≤_}
 use mathlib.Core.List.{List}
 use native.Mathlib.Omega.{arith}
+use lib.IntN.{ℤ}
 use Rattle.parts.specs.declared.Counts.{Counts}
 use Rattle.parts.specs.Parts.{ReadAs}
 use Rattle.parts.proofs.Parts.{few}
-use Rattle.check_ledger.specs.declared.Ledger.{Ledger}
 use Rattle.check_ledger.specs.View.{Bounded}
-use Rattle.check_ledger.proofs.Bounds.{within-wider}
 use Rattle.check_take.specs.declared.Place.{Place}
 use Rattle.check_take.specs.View.{Stood}
 
-module _ (file : List ℕ) (c : Counts) (at : Place) (l : Ledger) (e : ReadAs file c) where
+module _ (file : List ℕ) (c : Counts) (at : Place) (l : List ℤ) (e : ReadAs file c) where
   pub near : Stood c at l → (at .rule ≤ 4096) × (at .array ≤ 4096) × (at .stream ≤ 4096)
   near s =
       let f = few file c e in
@@ -19,6 +18,3 @@ module _ (file : List ℕ) (c : Counts) (at : Place) (l : Ledger) (e : ReadAs fi
 
   pub small-ledger : Stood c at l → (m : ℕ) × Bounded m l × (m ≤ 4096)
   small-ledger s = (at .rule, s .bounded, near s .0)
-
-pub bounded-wider : {m n : ℕ} {l : Ledger} → m ≤ n → Bounded m l → Bounded n l
-bounded-wider k h = record { at-position = λ q. within-wider (h .at-position q) (omega (arith, k)) (omega arith) }

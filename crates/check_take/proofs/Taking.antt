@@ -8,6 +8,7 @@ use native.Mathlib.Omega.{arith}
 use lib.Dec.{eqb}
 use lib.ListN.{length}
 use borrow.Author.Tests.{eqb-true, eq-eqb, ne-eqb}
+use lib.IntN.{ℤ}
 use Rattle.numbers.specs.Result.{ok, stop, _>>=_, need, because}
 use Rattle.numbers.proofs.Tests.{and-left, and-right, or-cases}
 use Rattle.forms.specs.Form as F
@@ -17,17 +18,15 @@ use Rattle.kernel.specs.Derivation.{Opened, in-for, in-if, in-else, went, rule}
 use Rattle.kernel.specs.Check as Check
 use Rattle.kernel.specs.Check.{refused-at}
 use Rattle.parts.specs.declared.Counts.{Counts}
-use Rattle.check_ledger.specs.declared.Ledger.{Ledger}
 use Rattle.check_ledger.specs.View.{ledger}
 use Rattle.check_take.specs.declared.Place.{Place}
-use Rattle.check_take.specs.declared.Taken.{Taken}
-use Rattle.check_take.specs.View.{place, taken, refusal, past, rule-code, TakesRule, Closing}
+use Rattle.check_take.specs.View.{Taken, place, taken, refusal, past, rule-code, TakesRule, Closing}
 use Rattle.check_take.proofs.Comes.{here, Fitting, Effect, Comes, unfit, fit, misplaced}
 
 -- ---- what the code answers
 
 -- a refusal is no answer 0
-pub refuses : {A : Type 0} (at : Place) (l : Ledger) (r : Taken) (number : ℕ) → (number ≡ 0 → ⊥) → r ≡ refusal at l number → r .number ≡ 0 → A
+pub refuses : {A : Type 0} (at : Place) (l : List ℤ) (r : Taken) (number : ℕ) → (number ≡ 0 → ⊥) → r ≡ refusal at l number → r .number ≡ 0 → A
 refuses at l r number z e h = absurd (z (sym (ap (λ (r : Taken). r .number) e) ∙ h))
 
 -- an else or an end, by its code; it is no for
@@ -51,16 +50,17 @@ and-holds {t} {u} e f = f ∙ sym (ap (λ t. t && u) e)
 
 -- ---- the code takes it so
 
-module _ (file : List ℕ) (c : Counts) (os : List Opened) (at : Place) (l : Ledger) where
+module _ (file : List ℕ) (c : Counts) (os : List Opened) (at : Place) (l : List ℤ) where
   module _ (os′ : List Opened) (r : Taken) where
-    pub stopped : (number : ℕ) → (number ≡ 0 → ⊥) → r ≡ refusal at l number → Comes file c os at l (stop number) → TakesRule file c os at l os′ r
+    -- whatever the ledger is then
+    pub stopped : {m : List ℤ} (number : ℕ) → (number ≡ 0 → ⊥) → r ≡ refusal at m number → Comes file c os at l (stop number) → TakesRule file c os at l os′ r
     unfolding taken Check.at because
-    stopped number z e t =
+    stopped {m} number z e t =
         ap (taken (c .a) (c .b) os′) e
-        ∙ ap (λ (b : Bool). cond b (ok (place (c .a) (c .b) os′ at l)) (stop (refused-at (place (c .a) (c .b) os′ at l) number))) (ne-eqb number 0 z)
+        ∙ ap (λ (b : Bool). cond b (ok (place (c .a) (c .b) os′ at m)) (stop (refused-at (place (c .a) (c .b) os′ at m) number))) (ne-eqb number 0 z)
         ∙ sym t
 
-    pub went-on : (arrays : ℕ) (m : Ledger) (M : L.Ledger) → r ≡ past at arrays m → ledger (c .a) (c .b) m ≡ M
+    pub went-on : (arrays : ℕ) (m : List ℤ) (M : L.Ledger) → r ≡ past at arrays m → ledger (c .a) (c .b) m ≡ M
         → Comes file c os at l (ok (went 1 arrays 1 os′ M (here file c os at l))) → TakesRule file c os at l os′ r
     unfolding taken Check.at because went
     went-on arrays m M e f t =
@@ -95,7 +95,7 @@ module _ (file : List ℕ) (c : Counts) (os : List Opened) (at : Place) (l : Led
 
 -- ---- by the innermost block
 
-module _ (file : List ℕ) (c : Counts) (os : List Opened) (at : Place) (l : Ledger) where
+module _ (file : List ℕ) (c : Counts) (os : List Opened) (at : Place) (l : List ℤ) where
   abbrev M : L.Ledger
   M = ledger (c .a) (c .b) l
 

@@ -1,13 +1,16 @@
-// What the walk carries, a place and a ledger, and the rules taken from there; a for and an if in parts: entered, turned at the else, left.
-use check_ledger::Ledger;
+// Where the walk stands, and the rules taken from there with the lent ledger; a for and an if in parts: entered, turned at the else, left.
+use check_ledger::Entries;
+use check_rows::Change;
 use forms::Loop;
 use forms::Loops;
 use parts::Counts;
 use parts::Rec;
 ghost use mathlib.Core.Path.{_≡_};
 ghost use mathlib.Core.Bool.{_&&_};
+ghost use mathlib.Core.List.{List};
 ghost use Prim.Native.Nat.{ℕ, _≤_, _<_};
 ghost use lib.Dec.{eqb};
+ghost use lib.IntN.{ℤ};
 ghost use Rattle.forms.specs.Code.{loop, loops, Turning};
 ghost use Rattle.kernel.specs.Derivation as Derivation;
 ghost use Rattle.kernel.specs.Guarantees.{LoopFits};
@@ -17,7 +20,7 @@ ghost use Rattle.check_ledger.specs.View.{Bounded};
 ghost use Rattle.check_rows.specs.Changes.{Stated};
 ghost use Rattle.check_rules.specs.View.{Named};
 ghost use Rattle.check_take.specs.View as View;
-ghost use Rattle.check_take.specs.View.{rule-code, array-there, stream-there, fits-there, Next, AtRule, Closing, Plain};
+ghost use Rattle.check_take.specs.View.{rule-code, array-there, stream-there, fits-there, with-ledger, Next, AtRule, Closing, Plain};
 
 // The next record of each section that no rule has taken.
 pub struct Place {
@@ -26,37 +29,32 @@ pub struct Place {
     pub stream: usize,
 }
 
-// What comes of a rule: number 0, and where the derivation goes on with which ledger; or the number that refuses it, and where it stands.
-pub struct Taken {
+// What comes of a rule: number 0, and where the derivation goes on; or the number that refuses it, and where it stands.
+pub struct Reached {
     pub number: u8,
     pub at: Place,
-    pub ledger: Ledger,
 }
 
-pub fn refused(at: Place, l: Ledger, number: u8) -> Taken
-    ensures { λ r. ⌜ r ≡ View.refusal at l number ⌝ }
+// Refused, or, with number 0, not a step further.
+pub fn stays(at: Place, number: u8) -> Reached
+    ensures { λ r. ⌜ r ≡ record { number = number; at = at } ⌝ }
 {
-    Taken {
-        number,
-        at,
-        ledger: l,
-    }
+    Reached { number, at }
 }
 
 // Past one rule, so many statements of the array program and one of the stream program.
-fn took(at: Place, arrays: usize, l: Ledger) -> Taken
+pub fn took(at: Place, arrays: usize) -> Reached
     requires { ⌜ (at .rule ≤ 4096) × (at .array ≤ 4096) × (at .stream ≤ 4096) × (arrays ≤ 1) ⌝ }
-    ensures { λ r. ⌜ r ≡ View.past at arrays l ⌝ }
+    ensures { λ r. ⌜ r ≡ record { number = 0; at = View.further at arrays } ⌝ }
 {
     let next = Place {
         rule: at.rule + 1,
         array: at.array + arrays,
         stream: at.stream + 1,
     };
-    Taken {
+    Reached {
         number: 0,
         at: next,
-        ledger: l,
     }
 }
 
@@ -87,40 +85,34 @@ pub fn stream_next(file: &[u8], c: Counts, at: Place) -> Rec
 // ---- rules that open and close no block
 
 // What the rule that fits refuses, of the ledger's entries that it asks about.
-fn asked(file: &[u8], c: Counts, l: Ledger, around: Loops, code: u32, a: Rec, s: Rec) -> u8
-    requires { ⌜ ReadAs (now file) c × Named c (Derivation.rule code) (rec a) (rec s) × Turning around × ((m : ℕ) × Bounded m l × (m ≤ 4096)) ⌝ }
-    ensures { λ r. ⌜ View.Answers (now (file .entry)) c l (loops around) code (rec a) (rec s) r ⌝ }
+fn asked(file: &[u8], c: Counts, l: &Entries, around: Loops, code: u32, a: Rec, s: Rec) -> u8
+    requires { ⌜ ReadAs (now file) c × Named c (Derivation.rule code) (rec a) (rec s) × Turning around × ((m : ℕ) × Bounded m (now l) × (m ≤ 4096)) ⌝ }
+    ensures { λ r. ⌜ View.Answers (now (file .entry)) c (now (l .entry)) (loops around) code (rec a) (rec s) r ⌝ }
 {
     let q = check_rules::stream_of(code, a, s);
     let b = check_rules::buffer_of(code, c.r, s);
-    let position = l.positions[q];
-    let h = l.held[b];
+    let position = check_ledger::position(l, q);
+    let h = check_ledger::buffer(l, b);
     check_rules::asked(file, c, code, a, s, position, h, around)
 }
 
-// Any rule but for, if, else and end; a code that is no rule's is refused with 10.
-pub fn plain(
+// What refuses any rule but for, if, else and end: 10 for a code that is no rule's, and 0 for nothing.
+pub fn refuses(
     file: &[u8],
     c: Counts,
-    at: Place,
-    l: Ledger,
+    l: &Entries,
     around: Loops,
     code: u32,
     a: Rec,
     s: Rec,
-) -> Taken
-    requires { ⌜ AtRule (now file) c at l × Turning around × (code ≡ rule-code (now file) c at) × Plain code × Next (now file) c at a s ⌝ }
-    ensures { λ r. ⌜ View.TakenPlain (now (file .entry)) c at l (loops around) r ⌝ }
+) -> u8
+    requires { ⌜ ReadAs (now file) c × Turning around × Plain code × View.NextSomewhere (now file) c a s × ((m : ℕ) × Bounded m (now l) × (m ≤ 4096)) ⌝ }
+    ensures { λ r. ⌜ View.Refuses (now (file .entry)) c (now (l .entry)) (loops around) code a s r ⌝ }
 {
     if !check_rules::fits(code, c.r, a, s) {
-        return refused(at, l, kernel::DOES_NOT_FIT);
+        return kernel::DOES_NOT_FIT;
     }
-    let number = asked(file, c, l, around, code, a, s);
-    if number != 0 {
-        return refused(at, l, number);
-    }
-    let next = check_rules::stepped(file, c, code, a, s, l);
-    took(at, check_rules::arrays_taken(code), next)
+    asked(file, c, l, around, code, a, s)
 }
 
 // ---- a for
@@ -130,33 +122,33 @@ pub fn enter_for(
     file: &[u8],
     c: Counts,
     at: Place,
-    l: Ledger,
+    l: &mut Entries,
     around: Loops,
     a: Rec,
     s: Rec,
-) -> Taken
-    requires { ⌜ AtRule (now file) c at l × (around .count ≤ 4) × (rule-code (now file) c at ≡ 7) × Next (now file) c at a s ⌝ }
-    ensures { λ r. ⌜ View.EnteredFor (now (file .entry)) c at l (loops around) r ⌝ }
+) -> Reached
+    requires { ⌜ AtRule (now file) c at (now l) × (around .count ≤ 4) × (rule-code (now file) c at ≡ 7) × Next (now file) c at a s ⌝ }
+    ensures { λ r. ⌜ View.EnteredFor (now (file .entry)) c at (now (l .entry)) (loops around) (with-ledger r (now (l .exit))) ⌝ }
 {
     if !check_rules::for_fits(file, c, at.rule, around.count, a, s) {
-        return refused(at, l, kernel::DOES_NOT_FIT);
+        return stays(at, kernel::DOES_NOT_FIT);
     }
     let part = parts::derivation_part(c);
-    let rows = check_rows::stated(file, part, at.rule, c.a, c.b);
+    let mut rows = check_ledger::fresh();
+    check_rows::state(file, part, at.rule, c.a, c.b, &mut rows);
     let first = numbers::signed(a.p);
-    let at_first = check_rows::put_at(rows, around.count, first, c.a, c.b);
-    if !check_rows::rows_true(at_first, l, c.a, c.b, around) {
-        return refused(at, l, kernel::UNTRUE_AT_ENTRY);
+    if !check_rows::rows_true(&rows, l, around.count, Change::At(first), c.a, c.b, around) {
+        return stays(at, kernel::UNTRUE_AT_ENTRY);
     }
+    *l = rows;
     let next = Place {
         rule: at.rule + 1 + c.a + c.b,
         array: at.array + 1,
         stream: at.stream + 1,
     };
-    Taken {
+    Reached {
         number: 0,
         at: next,
-        ledger: rows,
     }
 }
 
@@ -179,59 +171,67 @@ pub fn leave_for(
     file: &[u8],
     c: Counts,
     at: Place,
-    l: Ledger,
-    rows: Ledger,
+    l: &mut Entries,
+    rows: &Entries,
     own: Loop,
     inside: Loops,
-) -> Taken
-    requires { ⌜ AtRule (now file) c at l × Closing (rule-code (now file) c at) × Stated rows × LoopFits (loop own) × (1 ≤ inside .count) × (inside .count ≤ 4) ⌝ }
-    ensures { λ r. ⌜ View.LeftFor (now (file .entry)) c at l rows (loop own) (loops inside) r ⌝ }
+) -> Reached
+    requires { ⌜ AtRule (now file) c at (now l) × Closing (rule-code (now file) c at) × Stated (now rows) × LoopFits (loop own) × (1 ≤ inside .count) × (inside .count ≤ 4) ⌝ }
+    ensures { λ r. ⌜ View.LeftFor (now (file .entry)) c at (now (l .entry)) (now (rows .entry)) (loop own) (loops inside) (with-ledger r (now (l .exit))) ⌝ }
 {
     if !closes(file, c, at, kernel::codes::END_RULE) {
-        return refused(at, l, kernel::DOES_NOT_FIT);
+        return stays(at, kernel::DOES_NOT_FIT);
     }
     let level = inside.count - 1;
-    let next = check_rows::moved_by(rows, level, own.step, c.a, c.b);
-    if !check_rows::rows_true(next, l, c.a, c.b, inside) {
-        return refused(at, l, kernel::NOT_KEPT);
+    if !check_rows::rows_true(rows, l, level, Change::By(own.step), c.a, c.b, inside) {
+        return stays(at, kernel::NOT_KEPT);
     }
     let limit = own.first + own.step * (own.passes as i64);
-    took(at, 1, check_rows::put_at(rows, level, limit, c.a, c.b))
+    check_rows::rows_left(rows, level, Change::At(limit), c.a, c.b, l);
+    took(at, 1)
 }
 
 // ---- an if
 
-pub fn enter_if(file: &[u8], c: Counts, at: Place, l: Ledger, a: Rec, s: Rec) -> Taken
-    requires { ⌜ AtRule (now file) c at l × (rule-code (now file) c at ≡ 8) × Next (now file) c at a s ⌝ }
-    ensures { λ r. ⌜ View.EnteredIf (now (file .entry)) c at l r ⌝ }
+pub fn enter_if(file: &[u8], c: Counts, at: Place, a: Rec, s: Rec) -> Reached
+    requires { ⌜ View.RuleThere (now file) c at × (rule-code (now file) c at ≡ 8) × Next (now file) c at a s ⌝ }
+    ensures { λ r. ⌜ ((l : List ℤ) → AtRule (now (file .entry)) c at l → View.EnteredIf (now (file .entry)) c at l (with-ledger r l)) ⌝ }
 {
     if !check_rules::fits(kernel::codes::IF_RULE, c.r, a, s) {
-        return refused(at, l, kernel::DOES_NOT_FIT);
+        return stays(at, kernel::DOES_NOT_FIT);
     }
-    took(at, 1, l)
+    took(at, 1)
 }
 
-// At the end of the first branch: the else starts again from the ledger at the if.
-pub fn turn(file: &[u8], c: Counts, at: Place, l: Ledger, start: Ledger) -> Taken
-    requires { ⌜ AtRule (now file) c at l × Closing (rule-code (now file) c at) × Bounded (at .rule) start ⌝ }
-    ensures { λ r. ⌜ View.Turned (now (file .entry)) c at l start r ⌝ }
+// At the end of the first branch; the else starts again from the ledger at the if.
+pub fn turn(file: &[u8], c: Counts, at: Place) -> Reached
+    requires { ⌜ View.RuleThere (now file) c at × Closing (rule-code (now file) c at) ⌝ }
+    ensures { λ r. ⌜ ((l start : List ℤ) → AtRule (now (file .entry)) c at l → Bounded (at .rule) start → View.Turned (now (file .entry)) c at l start (with-ledger r start)) ⌝ }
 {
     if !closes(file, c, at, kernel::codes::ELSE_RULE) {
-        return refused(at, l, kernel::DOES_NOT_FIT);
+        return stays(at, kernel::DOES_NOT_FIT);
     }
-    took(at, 1, start)
+    took(at, 1)
 }
 
 // At the end of the second branch: positions equal those of the first (16), and buffers keep what both have.
-pub fn leave_if(file: &[u8], c: Counts, at: Place, l: Ledger, first: Ledger, around: Loops) -> Taken
-    requires { ⌜ AtRule (now file) c at l × Closing (rule-code (now file) c at) × Bounded (at .rule) first ⌝ }
-    ensures { λ r. ⌜ View.LeftIf (now (file .entry)) c at l first (loops around) r ⌝ }
+pub fn leave_if(
+    file: &[u8],
+    c: Counts,
+    at: Place,
+    l: &mut Entries,
+    first: &Entries,
+    around: Loops,
+) -> Reached
+    requires { ⌜ AtRule (now file) c at (now l) × Closing (rule-code (now file) c at) × Bounded (at .rule) (now first) ⌝ }
+    ensures { λ r. ⌜ View.LeftIf (now (file .entry)) c at (now (l .entry)) (now (first .entry)) (loops around) (with-ledger r (now (l .exit))) ⌝ }
 {
     if !closes(file, c, at, kernel::codes::END_RULE) {
-        return refused(at, l, kernel::DOES_NOT_FIT);
+        return stays(at, kernel::DOES_NOT_FIT);
     }
     if !check_ledger::same_positions(first, l, c.a, around) {
-        return refused(at, l, kernel::BRANCHES_DIFFER);
+        return stays(at, kernel::BRANCHES_DIFFER);
     }
-    took(at, 1, check_ledger::merged(first, l, c.b, around))
+    check_ledger::merge(first, c.a, c.b, around, l);
+    took(at, 1)
 }

@@ -4,6 +4,7 @@ use mathlib.Core.Path.{_≡_, refl, sym, ap, subst, _∙_}
 use mathlib.Core.Bool.{true, false}
 use mathlib.Core.Logic.{inl, inr}
 use mathlib.Core.List.{List, [], _∷_, _++_}
+use lib.IntN.{ℤ}
 use native.Mathlib.Omega.{arith}
 use native.Mathlib.Decide.{ℕ-discrete, decLt}
 use Rattle.numbers.specs.Words.{between}
@@ -16,9 +17,9 @@ use Rattle.kernel.specs.Derivation as S
 use Rattle.kernel.specs.Derivation.{Opened}
 use Rattle.kernel.specs.Check.{no-block}
 use Rattle.parts.specs.declared.Counts.{Counts}
-use Rattle.check_take.specs.declared.Taken.{Taken}
 use Rattle.check_ledger.specs.View.{ledger}
-use Rattle.check_take.specs.View.{Stood, Onward, loop-there, TakesRule, Closing, Plain, ReadsOn, Enters}
+use Rattle.check_take.specs.declared.Place.{Place}
+use Rattle.check_take.specs.View.{Taken, refusal, Stood, Onward, loop-there, TakesRule, Closing, Plain, ReadsOn, Enters}
 use Rattle.check_walk.specs.View.{Goes, Further, Opens}
 use Rattle.check_walk.proofs.Walks.{goes-rule, goes-then, goes-stop}
 
@@ -59,8 +60,8 @@ module _ (file : List ℕ) (c : Counts) where
     abbrev pub Opening : Taken → Opened → Taken → Type 0
     Opening w o e = (os : List Opened) → LoopsAre os → Goes file c os w (o ∷ os) e
 
-    pub stops-inside : (w e : Taken) (o : Opened) → Opening w o e → (e .number ≡ 0 → ⊥) → (os : List Opened) → LoopsAre os → Goes file c os w os e
-    stops-inside w e o g z os k = goes-stop file c os (o ∷ os) os w e (g os k) z
+    pub stops-inside : (w e : Taken) (m : List ℤ) (o : Opened) → Opening w o e → (e .number ≡ 0 → ⊥) → (os : List Opened) → LoopsAre os → Goes file c os w os (refusal (e .at) m (e .number))
+    stops-inside w e m o g z os k = goes-stop file c os (o ∷ os) os w e m (g os k) z
 
     -- on to v, where another block may be open in its place
     pub goes-inside : (w e v : Taken) (o o′ : Opened) → Opening w o e → e .number ≡ 0 → ((os : List Opened) → LoopsAre os → Goes file c (o ∷ os) e (o′ ∷ os) v) → Opening w o′ v
@@ -130,43 +131,43 @@ module _ (file : List ℕ) (c : Counts) where
 
   -- ---- what has been passed over
 
-  pub further-none : (w : Taken) → Stood c (w .at) (w .ledger) → Further file c w w
-  further-none w s = record { stood = s; further-on = omega arith; reads-on = λ opens h. h }
+  pub further-none : (at : Place) (l : List ℤ) → Stood c at l → Further file c at at l
+  further-none at l s = record { stood = s; further-on = omega arith; reads-on = λ opens h. h }
 
-  pub further-then : (w v r : Taken) → Further file c w v → Further file c v r → Further file c w r
-  further-then w v r f g = record { stood = g .stood; further-on = omega (arith, f .further-on, g .further-on); reads-on = λ opens h. g .reads-on opens (f .reads-on opens h) }
+  pub further-then : (from at after : Place) (l m : List ℤ) → Further file c from at l → Further file c at after m → Further file c from after m
+  further-then from at after l m f g = record { stood = g .stood; further-on = omega (arith, f .further-on, g .further-on); reads-on = λ opens h. g .reads-on opens (f .reads-on opens h) }
 
-  pub further-opens : (w v : Taken) (ls : Loops) → Further file c w v → Opens file c w ls → Opens file c v ls
-  further-opens w v ls f o = record { opens = o .opens; reads-on = f .reads-on (o .opens) (o .reads-on); level = o .level }
+  pub further-opens : (from at : Place) (l : List ℤ) (ls : Loops) → Further file c from at l → Opens file c from ls → Opens file c at ls
+  further-opens from at l ls f o = record { opens = o .opens; reads-on = f .reads-on (o .opens) (o .reads-on); level = o .level }
 
-  abbrev pub Longer : Taken → Taken → Type 0
-  Longer w r = Further file c w r × (w .at .rule < r .at .rule)
+  abbrev pub Longer : Place → Taken → Type 0
+  Longer at r = Further file c at (r .at) (r .ledger) × (at .rule < r .at .rule)
 
-  pub further-rule : (w r : Taken) → Onward c (w .at) r → ((opens : List Open) → ReadsOn file c opens (w .at) → ReadsOn file c opens (r .at)) → Longer w r
-  further-rule w r o f = (record { stood = o .stood; further-on = omega (arith, o .further-on); reads-on = f }, o .further-on)
+  pub further-rule : (at : Place) (r : Taken) → Onward c at r → ((opens : List Open) → ReadsOn file c opens at → ReadsOn file c opens (r .at)) → Longer at r
+  further-rule at r o f = (record { stood = o .stood; further-on = omega (arith, o .further-on); reads-on = f }, o .further-on)
 
-  pub further-for : (w e v r : Taken) → Onward c (w .at) e → ((opens : List Open) → ReadsOn file c opens (w .at) → Enters file c opens (w .at) (e .at)) → Further file c e v
-      → Onward c (v .at) r → ((n : ℕ) (opens : List Open) → ReadsOn file c (open-for n ∷ opens) (v .at) → ReadsOn file c opens (r .at)) → Longer w r
-  further-for w e v r o i f p l =
-      further-rule w r (record { stood = p .stood; further-on = omega (arith, o .further-on, f .further-on, p .further-on) })
-      (λ opens h. l (loop-there file c (w .at) .passes) opens (f .reads-on (open-for (loop-there file c (w .at) .passes) ∷ opens) (i opens h .reads-inside)))
+  pub further-for : (at : Place) (e v r : Taken) → Onward c at e → ((opens : List Open) → ReadsOn file c opens at → Enters file c opens at (e .at)) → Further file c (e .at) (v .at) (v .ledger)
+      → Onward c (v .at) r → ((n : ℕ) (opens : List Open) → ReadsOn file c (open-for n ∷ opens) (v .at) → ReadsOn file c opens (r .at)) → Longer at r
+  further-for at e v r o i f p l =
+      further-rule at r (record { stood = p .stood; further-on = omega (arith, o .further-on, f .further-on, p .further-on) })
+      (λ opens h. l (loop-there file c at .passes) opens (f .reads-on (open-for (loop-there file c at .passes) ∷ opens) (i opens h .reads-inside)))
 
-  pub further-if : (w e v t u r : Taken) → Onward c (w .at) e → ((opens : List Open) → ReadsOn file c opens (w .at) → ReadsOn file c (open-if ∷ opens) (e .at)) → Further file c e v
-      → Onward c (v .at) t → ((opens : List Open) → ReadsOn file c (open-if ∷ opens) (v .at) → ReadsOn file c (open-else ∷ opens) (t .at)) → Further file c t u
-      → Onward c (u .at) r → ((opens : List Open) → ReadsOn file c (open-else ∷ opens) (u .at) → ReadsOn file c opens (r .at)) → Longer w r
-  further-if w e v t u r o i f p j g q l =
-      further-rule w r (record { stood = q .stood; further-on = omega (arith, o .further-on, f .further-on, p .further-on, g .further-on, q .further-on) })
+  pub further-if : (at : Place) (e v t u r : Taken) → Onward c at e → ((opens : List Open) → ReadsOn file c opens at → ReadsOn file c (open-if ∷ opens) (e .at)) → Further file c (e .at) (v .at) (v .ledger)
+      → Onward c (v .at) t → ((opens : List Open) → ReadsOn file c (open-if ∷ opens) (v .at) → ReadsOn file c (open-else ∷ opens) (t .at)) → Further file c (t .at) (u .at) (u .ledger)
+      → Onward c (u .at) r → ((opens : List Open) → ReadsOn file c (open-else ∷ opens) (u .at) → ReadsOn file c opens (r .at)) → Longer at r
+  further-if at e v t u r o i f p j g q l =
+      further-rule at r (record { stood = q .stood; further-on = omega (arith, o .further-on, f .further-on, p .further-on, g .further-on, q .further-on) })
       (λ opens h. l opens (g .reads-on (open-else ∷ opens) (j opens (f .reads-on (open-if ∷ opens) (i opens h)))))
 
   -- one loop more, or a branch
-  pub opens-for : (w e : Taken) (ls ls′ : Loops) → (o : Opens file c w ls) → Enters file c (o .opens) (w .at) (e .at) → ls′ .count ≡ ls .count + 1 → Opens file c e ls′
+  pub opens-for : (at inside : Place) (ls ls′ : Loops) → (o : Opens file c at ls) → Enters file c (o .opens) at inside → ls′ .count ≡ ls .count + 1 → Opens file c inside ls′
   unfolding open-loops
-  opens-for w e ls ls′ o i k = record { opens = open-for (loop-there file c (w .at) .passes) ∷ o .opens; reads-on = i .reads-inside; level = omega (arith, o .level, k) }
+  opens-for at inside ls ls′ o i k = record { opens = open-for (loop-there file c at .passes) ∷ o .opens; reads-on = i .reads-inside; level = omega (arith, o .level, k) }
 
-  pub opens-if : (w e : Taken) (ls : Loops) → (o : Opens file c w ls) → ReadsOn file c (open-if ∷ o .opens) (e .at) → Opens file c e ls
+  pub opens-if : (at inside : Place) (ls : Loops) → (o : Opens file c at ls) → ReadsOn file c (open-if ∷ o .opens) inside → Opens file c inside ls
   unfolding open-loops
-  opens-if w e ls o i = record { opens = open-if ∷ o .opens; reads-on = i; level = o .level }
+  opens-if at inside ls o i = record { opens = open-if ∷ o .opens; reads-on = i; level = o .level }
 
-  pub opens-else : (w t : Taken) (ls : Loops) → (o : Opens file c w ls) → ReadsOn file c (open-else ∷ o .opens) (t .at) → Opens file c t ls
+  pub opens-else : (at inside : Place) (ls : Loops) → (o : Opens file c at ls) → ReadsOn file c (open-else ∷ o .opens) inside → Opens file c inside ls
   unfolding open-loops
-  opens-else w t ls o i = record { opens = open-else ∷ o .opens; reads-on = i; level = o .level }
+  opens-else at inside ls o i = record { opens = open-else ∷ o .opens; reads-on = i; level = o .level }

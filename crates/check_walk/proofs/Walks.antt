@@ -4,6 +4,7 @@ use mathlib.Core.Path.{_≡_, refl, sym, ap, subst, _∙_}
 use mathlib.Core.Bool.{Bool, true, false, cond, _&&_}
 use mathlib.Core.Logic.{inl, inr}
 use mathlib.Core.List.{List, []}
+use lib.IntN.{ℤ}
 use native.Mathlib.Omega.{arith}
 use lib.Dec.{leb}
 use lib.ListN.{length}
@@ -17,10 +18,10 @@ use Rattle.kernel.specs.Check.{refused-at, no-block, finish, walk-on}
 use Rattle.kernel.proofs.Walking.{walk-over, walk-take, none-open}
 use Rattle.parts.specs.declared.Counts.{Counts}
 use Rattle.parts.specs.Parts.{kernel}
-use Rattle.check_take.specs.declared.Taken.{Taken}
-use Rattle.check_take.specs.View.{place, taken, refusal, rule-code, TakesRule, Closing}
+use Rattle.check_take.specs.declared.Place.{Place as At}
+use Rattle.check_take.specs.View.{Taken, place, standing, taken, refusal, rule-code, TakesRule, Closing}
 use Rattle.parts.proofs.Parts.{array-count, stream-count, rule-count}
-use Rattle.check_walk.specs.View.{Goes, Rests}
+use Rattle.check_walk.specs.View.{Goes, Rests, Stops}
 
 module _ (file : List ℕ) (c : Counts) where
   abbrev K : Kernel
@@ -59,9 +60,9 @@ module _ (file : List ℕ) (c : Counts) where
   pub goes-then : (os os₁ os₂ : List Opened) (w e r : Taken) → Goes file c os w os₁ e → e .number ≡ 0 → Goes file c os₁ e os₂ r → Goes file c os w os₂ r
   goes-then os os₁ os₂ w e r g z h = g ∙ goes-on os₁ e z ∙ h
 
-  -- a refusal stays one, whatever is open
-  pub goes-stop : (os os₁ os₂ : List Opened) (w e : Taken) → Goes file c os w os₁ e → (e .number ≡ 0 → ⊥) → Goes file c os w os₂ e
-  goes-stop os os₁ os₂ w e g z = g ∙ goes-nowhere os₁ e z ∙ sym (goes-nowhere os₂ e z)
+  -- a refusal stays one, whatever is open and whatever the ledger is then
+  pub goes-stop : (os os₁ os₂ : List Opened) (w e : Taken) (m : List ℤ) → Goes file c os w os₁ e → (e .number ≡ 0 → ⊥) → Goes file c os w os₂ (refusal (e .at) m (e .number))
+  goes-stop os os₁ os₂ w e m g z = g ∙ goes-nowhere os₁ e z ∙ sym (goes-nowhere os₂ (refusal (e .at) m (e .number)) z)
 
   -- ---- where a block stops
 
@@ -116,18 +117,23 @@ module _ (file : List ℕ) (c : Counts) where
         ∙ ap (λ x. x >>= walk-on K) (stray-takes k))
 
   -- the code's flag says whether a block is open
-  pub rests-over : (inside : Bool) (w : Taken) → inside ≡ false → c .d ≤ w .at .rule → c .s ≤ w .at .array → c .t ≤ w .at .stream → Rests file c inside w
+  pub rests-over : (inside : Bool) (at : At) → inside ≡ false → c .d ≤ at .rule → c .s ≤ at .array → c .t ≤ at .stream → Rests file c inside at
   unfolding Rests
-  rests-over inside w e h k l = subst (λ inside. Rests file c inside w) (sym e) (h, k, l)
+  rests-over inside at e h k l = subst (λ inside. Rests file c inside at) (sym e) (h, k, l)
 
-  pub rests-inside : (inside : Bool) (w : Taken) → inside ≡ true → w .at .rule < c .d → Closing (rule-code file c (w .at)) → Rests file c inside w
+  pub rests-inside : (inside : Bool) (at : At) → inside ≡ true → at .rule < c .d → Closing (rule-code file c at) → Rests file c inside at
   unfolding Rests
-  rests-inside inside w e h k = subst (λ inside. Rests file c inside w) (sym e) (h, k)
+  rests-inside inside at e h k = subst (λ inside. Rests file c inside at) (sym e) (h, k)
 
-  pub comes-inside : (w : Taken) → Rests file c true w → (w .at .rule < c .d) × Closing (rule-code file c (w .at))
+  pub comes-inside : (at : At) → Rests file c true at → (at .rule < c .d) × Closing (rule-code file c at)
   unfolding Rests
-  comes-inside w h = h
+  comes-inside at h = h
 
-  pub comes-over : (w : Taken) → Rests file c false w → (c .d ≤ w .at .rule) × (c .s ≤ w .at .array) × (c .t ≤ w .at .stream)
+  pub comes-over : (at : At) → Rests file c false at → (c .d ≤ at .rule) × (c .s ≤ at .array) × (c .t ≤ at .stream)
   unfolding Rests
-  comes-over w h = h
+  comes-over at h = h
+
+  -- a block that stops just where it stands
+  pub stands : (inside : Bool) (at : At) (l : List ℤ) (r : Taken) → r ≡ standing at l → Rests file c inside at → Stops file c inside (standing at l) r
+  stands inside at l r e s =
+      ((λ os o. subst (Goes file c os (standing at l) os) (sym e) (goes-none os (standing at l) refl)), λ z. (e, subst (λ (r : Taken). Rests file c inside (r .at)) (sym e) s))

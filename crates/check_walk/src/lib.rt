@@ -1,105 +1,126 @@
 // The walk over the derivation: check of a block and check of a rule call each other, derivation records left falling.
-use check_take::Taken;
+use check_ledger::Entries;
+use check_take::Place;
+use check_take::Reached;
 use forms::Loops;
 use parts::Counts;
 ghost use mathlib.Core.Path.{_≡_};
 ghost use mathlib.Core.List.{List};
 ghost use Prim.Native.Nat.{ℕ, _≤_, _<_};
+ghost use lib.IntN.{ℤ};
 ghost use Rattle.forms.specs.Code.{loops, Turning};
 ghost use Rattle.parts.specs.Parts.{ReadAs};
-ghost use Rattle.check_take.specs.View.{Stood, rule-code, Closing};
+ghost use Rattle.check_take.specs.View.{standing, with-ledger, Stood, rule-code, Closing};
 ghost use Rattle.check_walk.specs.View.{Opens, Stops, BlockWalked, RuleDue, RuleWalked};
 
 // ---- where a block stops
 
 // The derivation is over: 17 where a statement is left, 18 where a block is open.
-fn over(c: Counts, w: Taken, inside: bool) -> Taken
-    requires { ⌜ (w .number ≡ 0) × (c .d ≤ w .at .rule) ⌝ }
-    ensures { λ r. ⌜ ((file : List ℕ) → Stops file c inside w r) ⌝ }
+fn over(c: Counts, at: Place, inside: bool) -> Reached
+    requires { ⌜ c .d ≤ at .rule ⌝ }
+    ensures { λ r. ⌜ ((file : List ℕ) (l : List ℤ) → Stops file c inside (standing at l) (with-ledger r l)) ⌝ }
 {
-    if w.at.array < c.s {
-        return check_take::refused(w.at, w.ledger, kernel::STATEMENTS_LEFT);
+    if at.array < c.s {
+        return check_take::stays(at, kernel::STATEMENTS_LEFT);
     }
-    if w.at.stream < c.t {
-        return check_take::refused(w.at, w.ledger, kernel::STATEMENTS_LEFT);
+    if at.stream < c.t {
+        return check_take::stays(at, kernel::STATEMENTS_LEFT);
     }
     if inside {
-        return check_take::refused(w.at, w.ledger, kernel::BLOCK_OPEN);
+        return check_take::stays(at, kernel::BLOCK_OPEN);
     }
-    w
+    check_take::stays(at, 0)
 }
 
 // An else or an end: 10 where no block is open.
-fn closing(file: &[u8], c: Counts, w: Taken, inside: bool) -> Taken
-    requires { ⌜ (w .number ≡ 0) × (w .at .rule < c .d) × Closing (rule-code (now file) c (w .at)) ⌝ }
-    ensures { λ r. ⌜ Stops (now (file .entry)) c inside w r ⌝ }
+fn closing(at: Place, inside: bool) -> Reached
+    ensures { λ r. ⌜ ((file : List ℕ) (c : Counts) (l : List ℤ) → at .rule < c .d → Closing (rule-code file c at) → Stops file c inside (standing at l) (with-ledger r l)) ⌝ }
 {
     if !inside {
-        return check_take::refused(w.at, w.ledger, kernel::DOES_NOT_FIT);
+        return check_take::stays(at, kernel::DOES_NOT_FIT);
     }
-    w
+    check_take::stays(at, 0)
 }
 
-// ---- the walk: from what one rule came to, number 0, to what the next comes to
+// ---- the walk, with the lent ledger
 
 // Takes the rules of a block one after another, up to its else or end; outside all blocks up to the end of the derivation.
-pub fn check_block(file: &[u8], c: Counts, w: Taken, ls: Loops, inside: bool) -> Taken
-    requires { ⌜ ReadAs (now file) c × (w .number ≡ 0) × Stood c (w .at) (w .ledger) × Turning ls × (ls .count ≤ 4) × Opens (now file) c w ls ⌝ }
-    ensures { λ r. ⌜ BlockWalked (now (file .entry)) c (loops ls) inside w r ⌝ }
+pub fn check_block(
+    file: &[u8],
+    c: Counts,
+    from: Place,
+    l: &mut Entries,
+    ls: Loops,
+    inside: bool,
+) -> Reached
+    requires { ⌜ ReadAs (now file) c × Stood c from (now l) × Turning ls × (ls .count ≤ 4) × Opens (now file) c from ls ⌝ }
+    ensures { λ r. ⌜ BlockWalked (now (file .entry)) c (loops ls) inside (standing from (now (l .entry))) (with-ledger r (now (l .exit))) ⌝ }
 {
-    let mut v = w;
-    while v.at.rule < c.d {
-        let code = check_take::code_next(file, c, v.at);
+    let mut at = from;
+    while at.rule < c.d {
+        let code = check_take::code_next(file, c, at);
         if numbers::between(kernel::codes::ELSE_RULE, kernel::codes::END_RULE, code) {
-            return closing(file, c, v, inside);
+            return closing(at, inside);
         }
-        let r = check_rule(file, c, v, ls, code);
+        let r = check_rule(file, c, at, l, ls, code);
         if r.number != 0 {
             return r;
         }
-        v = r;
+        at = r.at;
     }
-    over(c, v, inside)
+    over(c, at, inside)
 }
 
 // Takes a rule, a for or an if with all inside it.
-fn check_rule(file: &[u8], c: Counts, w: Taken, ls: Loops, code: u32) -> Taken
-    requires { ⌜ RuleDue (now file) c w ls code ⌝ }
-    ensures { λ r. ⌜ RuleWalked (now (file .entry)) c (loops ls) w r ⌝ }
+fn check_rule(file: &[u8], c: Counts, at: Place, l: &mut Entries, ls: Loops, code: u32) -> Reached
+    requires { ⌜ RuleDue (now file) c (standing at (now l)) ls code ⌝ }
+    ensures { λ r. ⌜ RuleWalked (now (file .entry)) c (loops ls) (standing at (now (l .entry))) (with-ledger r (now (l .exit))) ⌝ }
 {
-    let a = check_take::array_next(file, c, w.at);
-    let s = check_take::stream_next(file, c, w.at);
+    let a = check_take::array_next(file, c, at);
+    let s = check_take::stream_next(file, c, at);
     if code == kernel::codes::FOR_RULE {
-        let e = check_take::enter_for(file, c, w.at, w.ledger, ls, a, s);
+        let e = check_take::enter_for(file, c, at, l, ls, a, s);
         if e.number != 0 {
             return e;
         }
+        let rows = *l;
         let own = parts::loop_of(a);
         let inner = ls.deeper(own);
-        let v = check_block(file, c, e, inner, true);
+        let v = check_block(file, c, e.at, l, inner, true);
         if v.number != 0 {
             return v;
         }
-        return check_take::leave_for(file, c, v.at, v.ledger, e.ledger, own, inner);
+        return check_take::leave_for(file, c, v.at, l, &rows, own, inner);
     }
     if code == kernel::codes::IF_RULE {
-        let e = check_take::enter_if(file, c, w.at, w.ledger, a, s);
+        let e = check_take::enter_if(file, c, at, a, s);
         if e.number != 0 {
             return e;
         }
-        let v = check_block(file, c, e, ls, true);
+        let start = *l;
+        let v = check_block(file, c, e.at, l, ls, true);
         if v.number != 0 {
             return v;
         }
-        let o = check_take::turn(file, c, v.at, v.ledger, w.ledger);
+        let o = check_take::turn(file, c, v.at);
         if o.number != 0 {
             return o;
         }
-        let u = check_block(file, c, o, ls, true);
+        let first = *l;
+        *l = start;
+        let u = check_block(file, c, o.at, l, ls, true);
         if u.number != 0 {
             return u;
         }
-        return check_take::leave_if(file, c, u.at, u.ledger, v.ledger, ls);
+        return check_take::leave_if(file, c, u.at, l, &first, ls);
     }
-    check_take::plain(file, c, w.at, w.ledger, ls, code, a, s)
+    let number = check_take::refuses(file, c, l, ls, code, a, s);
+    if number != 0 {
+        return check_take::stays(at, number);
+    }
+    if !check_rules::steps(code) {
+        return check_take::took(at, check_rules::arrays_taken(code));
+    }
+    check_rules::step(file, c, code, a, s, l);
+    check_take::took(at, check_rules::arrays_taken(code))
 }

@@ -1,48 +1,34 @@
--- `check_rows::positions` meets its contract. Invariant: the first i are what the first i rows state, and all are small.
-use Prim.Native.Nat.{_+_, _-_, _^_, _<_}
+-- `check_rows::positions` meets its contract. Invariant: the first i are what the first i rows state, and all forms are small.
+use Prim.Native.Nat.{_-_}
 use mathlib.Core.Path.{refl}
-use mathlib.Core.List.{List, map}
+use mathlib.Core.List.{map}
 use native.Mathlib.Omega.{arith}
+use lib.ListN.{take, drop}
 use borrow.Author.Needs.{needs}
-use lib.ListN.{length, take, drop}
-use Rattle.forms.specs.Code.{form, Within}
+use Rattle.forms.specs.Code.{form}
 use Rattle.kernel.specs.File as File
 use Rattle.parts.specs.Parts.{records-in}
-use Rattle.parts.proofs.Records.{count-is}
-use Rattle.check_ledger.specs.View.{zero-form}
-use Rattle.check_ledger.proofs.Rows.{all-set, all-alike}
-use Rattle.check_ledger.proofs.Bounds.{zero-within, constant-within}
-use Rattle.check_ledger.proofs.Loops.{Written, written-more, written-all}
-use Rattle.check_rows.specs.Changes.{StatedForms}
-use Rattle.check_rows.proofs.Stating.{rows-more, small-form}
+use Rattle.check_ledger.specs.View.{positions}
+use Rattle.check_ledger.proofs.Entries.{positions-long}
+use Rattle.check_ledger.proofs.Loops.{Written, written-starts, written-all}
+use Rattle.check_rows.specs.Changes.{Stated}
+use Rattle.check_rows.proofs.Stating.{row-written, small-form, position-stated}
 use Rattle.check_rows.proofs.positions.Statement.{statement}
 use Rattle.check_rows.proofs.positions.Tie as tie
 
 abbrev Inv-loop : tie.InvT-loop
-Inv-loop file part from n r₀ i₀ r i = Written form (λ i. map File.form (take i (drop from (records-in file part)))) n i r × StatedForms r
+Inv-loop file part from n rows₀ i₀ rows i = Written form (λ i. map File.form (take i (drop from (records-in file part)))) n i (positions rows) × Stated rows
 
 abbrev μ-loop : tie.MeasureT-loop
-μ-loop file part from n r₀ i₀ r i = n - i
+μ-loop file part from n rows₀ i₀ rows i = n - i
 
--- the next row is one of the derivation's
-module _ (c : tie.In-loop Inv-loop μ-loop) where
-  abbrev start : tie.Start Inv-loop μ-loop
-  start = c .before .before .before .before
-
-  abbrev records : List File.Rec
-  records = records-in (start .args .file .now) (start .args .part)
-
-  inside : start .args .from + c .before .loop .i < length records
-  inside = omega (arith, c .loop-test .taken, start .pre .1, count-is (start .args .file .now) (start .args .part))
-
-constant-requires : tie.Need-constant-requires Inv-loop μ-loop
-constant-requires c κs = search needs
+abbrev start : tie.In-loop Inv-loop μ-loop → tie.Start Inv-loop μ-loop
+start c = c .before .before .before
 
 loop-holds : tie.Need-loop-holds Inv-loop μ-loop
-loop-holds c = (
-  record { in-time = omega arith; long = omega (arith, c .before .before .pre .2); so-far = refl },
-  all-alike (Within (2 ^ 20) (2 ^ 20)) 8 _ zero-form zero-within (constant-within (c .constant .ensures)),
-)
+loop-holds c =
+    let s = c .before in
+    (written-starts (omega (arith, s .pre .2, positions-long (s .args .rows .now))) refl, s .pre .4)
 
 add-record-in : tie.Need-add-record-in Inv-loop μ-loop
 add-record-in c = omega (arith, c .loop-test .taken, start c .pre .0 .few, start c .pre .1)
@@ -53,11 +39,10 @@ record-in-requires c κs = start c .pre .0
 form-of-requires : tie.Need-form-of-requires Inv-loop μ-loop
 form-of-requires c κs = search needs
 
-mul-r : tie.Need-mul-r Inv-loop μ-loop
-mul-r c = search needs
-
-array-set-from-r : tie.Need-array-set-from-r Inv-loop μ-loop
-array-set-from-r c = search needs
+put-position-requires : tie.Need-put-position-requires Inv-loop μ-loop
+put-position-requires c κs =
+    let t = c .before .before .before in
+    (omega (arith, t .loop-test .taken, start t .pre .2), t .before .loop .inv .1 .whole)
 
 add-i : tie.Need-add-i Inv-loop μ-loop
 add-i c = search needs
@@ -67,13 +52,16 @@ loop-less c = search needs
 
 loop-again : tie.Need-loop-again Inv-loop μ-loop
 loop-again c =
-    let t = c .before .before in
+    let t = c .before .before .before .before in
     let s = start t in
     let l = t .before .loop in
-    let e = c .before .record-in .ensures in
-    let k = c .form-of in (
-      written-more (l .inv .0) (k .result) (t .loop-test .taken) (rows-more (records t) (s .args .from) (l .i) e File.form (inside t) (k .ensures)),
-      all-set (Within (2 ^ 20) (2 ^ 20)) (l .r) (l .i) (k .result) zero-form zero-within (l .inv .1) (small-form (records t) (s .args .from) (l .i) e (s .pre .3) (k .ensures)),
+    let file = s .args .file .now in
+    let part = s .args .part in
+    let e = c .before .before .before .record-in .ensures in
+    let k = c .before .form-of in
+    let P = c .put-position .ensures in (
+      row-written file part (s .args .from) (l .i) e File.form (k .result) (s .pre .1) (t .loop-test .taken) (k .ensures) (l .inv .0) (P .positions-are),
+      position-stated (l .inv .1) (l .i) P (small-form file part (s .args .from) (l .i) e (s .pre .3) (k .ensures)),
     )
 
 returns : tie.Need-returns Inv-loop μ-loop
@@ -83,4 +71,16 @@ returns c =
 
 pub positions-spec : {M : Type 1} → statement M
 positions-spec =
-    tie.close (tie.spec Inv-loop μ-loop constant-requires loop-holds add-record-in record-in-requires form-of-requires mul-r array-set-from-r add-i loop-less loop-again returns)
+    tie.close
+    (tie.spec
+    Inv-loop
+    μ-loop
+    loop-holds
+    add-record-in
+    record-in-requires
+    form-of-requires
+    put-position-requires
+    add-i
+    loop-less
+    loop-again
+    returns)

@@ -62,7 +62,7 @@ returns c =
     let first = as-returned {z = b .before .first-of .result} (b .before .first-of .ok) ∙ b .before .first-of .ensures ∙ ap first-of is in
     let step = as-returned {z = b .step-of .result} (b .step-of .ok) ∙ b .step-of .ensures ∙ ap step-of is in
     record {
-      as-said = c .fill .ensures .0 (K file k) (k .a) (k .b) (few file k (s .pre .0) .arrays) (s .pre .1 .0) first step ∙ ap (λ d. fill-step (K file k) (s .args .s .p - d) q (ledger (k .a) (k .b) (s .args .l))) (sym (registers-are file k));
+      as-said = c .fill .ensures .0 (K file k) (k .a) (k .b) (few file k (s .pre .0) .arrays) (s .pre .1 .0) first step ∙ ap (λ d. fill-step (K file k) (s .args .s .p - d) q (ledger (k .a) (k .b) (s .args .l .entries))) (sym (registers-are file k));
       bounded = c .fill .ensures .1;
     }
 

@@ -9,15 +9,15 @@ use Rattle.parts.specs.Records.{rec}
 use Rattle.parts.proofs.Parts.{K, few, arrays-ready, registers-are}
 use Rattle.parts.proofs.Arrays.{few-arrays}
 use Rattle.check_ledger.specs.View.{ledger}
+use Rattle.check_ledger.proofs.Bounds.{bounded-wider}
 use Rattle.check_rules.specs.View.{Named, stepped}
-use Rattle.check_rules.proofs.Effects.{bounded-more}
 use Rattle.check_rules.proofs.ByCode.{fill-at, move-at, item-at, item-named, item-steps, ledger-kept}
 use Rattle.check_rules.proofs.stepped.Statement.{statement}
 use Rattle.check_rules.proofs.stepped.Tie as tie
 
 module _ (s : tie.Start) where
   abbrev seen : L.Ledger
-  seen = ledger (s .args .c .a) (s .args .c .b) (s .args .l)
+  seen = ledger (s .args .c .a) (s .args .c .b) (s .args .l .entries)
 
   -- the rule of the code, named
   module _ (r : Rule) (e : rule (s .args .code) ≡ r) where
@@ -98,7 +98,7 @@ returns-3 c =
           c .moved .ensures .0 (s .args .c .a) (s .args .c .b) (omega (arith, h .2, h .3))
           ∙ ap (λ d. L.move-step (s .args .s .p - d) (s .args .s .q - d) (seen s)) (sym (registers-are (s .args .file .now) (s .args .c)))
           ∙ by-rule s _ (move-at (m .match .keys3));
-      bounded = λ n b. bounded-more n _ (c .moved .ensures .1 n b);
+      bounded = λ n h. bounded-wider (c .moved .ensures .1 n h) (omega arith);
     }
 
 returns-4 : tie.Need-returns-4
@@ -106,7 +106,7 @@ returns-4 c =
     let s = c .before .before in
     record {
       as-said = ledger-kept (s .args .c) (rec (s .args .a)) (rec (s .args .s)) (K (s .args .file .now) (s .args .c)) (seen s) (s .args .code) (s .pre .1) (c .match .rest .0 .0 .1) (c .match .rest .0 .1) (c .match .rest .1);
-      bounded = λ n b. bounded-more n (s .args .l) b;
+      bounded = λ n h. bounded-wider h (omega arith);
     }
 
 pub stepped-spec : {M : Type 1} → statement M

@@ -19,12 +19,13 @@ use Rattle.parts.specs.declared.Part.{Part}
 use Rattle.parts.specs.Records.{rec}
 use Rattle.parts.specs.Parts.{kernel, records-in, Lies}
 use Rattle.parts.proofs.Parts.{few, fills, derivation-lies, derivation-is, arrays-count, buffers-are}
-use Rattle.check_ledger.specs.declared.Ledger.{Ledger}
 use Rattle.check_ledger.specs.View.{ledger}
 use Rattle.check_rows.specs.View.{SmallForms}
+use Rattle.check_rows.specs.Changes.{with-change, amount, Stated}
+use Rattle.check_rows.proofs.Stating.{zeros-stated}
 use Rattle.check_rules.proofs.Fitting.{refused, passed}
 use Rattle.check_rules.proofs.Effects.{need-fails, need-holds}
-use Rattle.check_take.specs.View.{place, loop-there}
+use Rattle.check_take.specs.View.{place, loop-there, with-ledger}
 use Rattle.check_take.proofs.Comes.{Fitting, unfit, fit}
 use Rattle.check_take.proofs.Taking.{refuses, stopped}
 use Rattle.check_take.proofs.Entering.{loops-count, deep, deep-loops, small-forms, first-as, tests, for-enters, went-in, rows-there, loop-fits, for-onward, enters}
@@ -37,13 +38,16 @@ module _ (s : tie.Start) where
   abbrev file : List ℕ
   file = s .args .file .now
 
+  abbrev l : List ℤ
+  l = s .args .l .now
+
   abbrev here : List Opened → Derivation.Place
-  here os = place (s .args .c .a) (s .args .c .b) os (s .args .at) (s .args .l)
+  here os = place (s .args .c .a) (s .args .c .b) os (s .args .at) l
 
   abbrev Fits : List Opened → Bool
-  Fits os = Fitting file (s .args .c) os (s .args .at) (s .args .l) 7
+  Fits os = Fitting file (s .args .c) os (s .args .at) l 7
 
-  abbrev seen : Ledger → L.Ledger
+  abbrev seen : List ℤ → L.Ledger
   seen l = ledger (s .args .c .a) (s .args .c .b) l
 
   abbrev first : ℤ
@@ -56,7 +60,7 @@ module _ (s : tie.Start) where
 tested : (c : tie.After-for-fits) (os : List Opened) → length (Derivation.loops os) ≡ c .before .before .args .around .count → c .for-fits .result ≡ Fits (c .before .before) os
 tested c os e =
     let s = c .before .before in
-    tests (file s) (s .args .c) (s .args .at) (s .args .l) os (rec (s .args .a)) (rec (s .args .s)) (c .for-fits .result) (s .pre .3 .array-is) (s .pre .3 .stream-is) (c .for-fits .ensures (here s os) refl e)
+    tests (file s) (s .args .c) (s .args .at) (l s) os (rec (s .args .a)) (rec (s .args .s)) (c .for-fits .result) (s .pre .3 .array-is) (s .pre .3 .stream-is) (c .for-fits .ensures (here s os) refl e)
 
 module _ (c : tie.Else1) where
   abbrev begun : tie.Start
@@ -73,33 +77,37 @@ module _ (c : tie.Else1) where
   some = goes blocks (deep-loops (begun .args .around .count))
 
 -- the rows' ledger is the one that the definition states
-stated-there : (c : tie.After-stated) (os : List Opened)
-    → seen (begun (c .before .before)) (c .stated .result) ≡ Derivation.stated (kernel (file (begun (c .before .before))) (begun (c .before .before) .args .c)) (Derivation.hold-rows (kernel (file (begun (c .before .before))) (begun (c .before .before) .args .c)) (here (begun (c .before .before)) os))
-stated-there c os =
-    let s = begun (c .before .before) in
-    let k = s .args .c in
-    c .stated .ensures .0 (kernel (file s) k) (here s os) (derivation-is (file s) k ∙ ap (records-in (file s)) (sym (c .before .derivation-part .ensures))) (arrays-count (file s) k) (buffers-are (file s) k) refl
+module _ (c : tie.After-state) where
+  abbrev fitted : tie.Else1
+  fitted = c .before .before .before .before
 
-first-is : (c : tie.After-signed) → back (c .signed .result) ≡ first (begun (c .before .before .before))
+  abbrev rows : List ℤ
+  rows = c .state .last .1 .1 .1 .1 .1 .0
+
+  stated-there : (os : List Opened) → seen (begun fitted) rows ≡ Derivation.stated (kernel (file (begun fitted)) (begun fitted .args .c)) (Derivation.hold-rows (kernel (file (begun fitted)) (begun fitted .args .c)) (here (begun fitted) os))
+  stated-there os =
+      let s = begun fitted in
+      let k = s .args .c in
+      c .state .ensures .0 (kernel (file s) k) (here s os) (derivation-is (file s) k ∙ ap (records-in (file s)) (sym (c .before .before .before .derivation-part .ensures))) (arrays-count (file s) k) (buffers-are (file s) k) refl
+
+first-is : (c : tie.After-signed) → back (c .signed .result) ≡ first (begun (fitted (c .before)))
 first-is c =
-    let s = begun (c .before .before .before) in
-    as-returned {z = c .signed .result} (c .signed .ok) ∙ c .signed .ensures ∙ first-as (file s) (s .args .c) (s .args .at) (s .args .l) (rec (s .args .a)) (s .pre .3 .array-is)
+    let s = begun (fitted (c .before)) in
+    as-returned {z = c .signed .result} (c .signed .ok) ∙ c .signed .ensures ∙ first-as (file s) (s .args .c) (s .args .at) (l s) (rec (s .args .a)) (s .pre .3 .array-is)
 
 -- the second is whether the rows are true at first
 module _ (c : tie.After-rows-true) where
-  abbrev fitted : tie.Else1
-  fitted = c .before .before .before .before .before
+  abbrev stated : tie.After-state
+  stated = c .before .before .before .before
 
   abbrev from : tie.Start
-  from = begun fitted
+  from = begun (fitted stated)
 
-  abbrev rows : L.Ledger
-  rows = seen from (c .before .before .before .stated .result)
-
-  held : c .rows-true .result ≡ L.rows-true (loops (from .args .around)) (L.each (F.put-at (from .args .around .count) (first from)) rows) (seen from (from .args .l))
+  held : c .rows-true .result ≡ L.rows-true (loops (from .args .around)) (L.each (F.put-at (from .args .around .count) (first from)) (seen from (rows stated))) (seen from (l from))
+  unfolding with-change
   held =
       c .rows-true .ensures
-      ∙ ap (λ n. L.rows-true (loops (from .args .around)) n (seen from (from .args .l))) (c .before .put-at .ensures .0 ∙ ap (λ z. L.each (F.put-at (from .args .around .count) z) rows) (first-is (c .before .before)))
+      ∙ ap (λ z. L.rows-true (loops (from .args .around)) (L.each (F.put-at (from .args .around .count) z) (seen from (rows stated))) (seen from (l from))) (first-is (c .before .before .before))
 
 -- ---- the needs
 
@@ -108,21 +116,20 @@ for-fits-requires c κs =
     let s = c .before in
     (s .pre .0 .reads, omega (arith, few (file s) (s .args .c) (s .pre .0 .reads) .rules, s .pre .0 .there), s .pre .1)
 
-refused-requires : tie.Need-refused-requires
-refused-requires c κs = search needs
+stays-requires : tie.Need-stays-requires
+stays-requires c κs = search needs
 
 returns : tie.Need-returns
 returns c =
     let s = c .before .before .before .before in
     let k = s .args .c in
     let at = s .args .at in
-    let l = s .args .l in
-    let e = c .refused .ensures in
+    let e = ap (λ r. with-ledger r (l s)) (c .stays .ensures) in
     record {
-      as-defined = λ os o. stopped (file s) k os at l _ _ 10 (λ z. omega (arith, z)) e (unfit (file s) k os at l 7 (s .pre .2) (refused {t = Fits s os} (tested (c .before .before) os (level-of s os o)) (c .before .if1 .taken)));
-      onward = refuses at l _ 10 (λ z. omega (arith, z)) e;
-      stated = refuses at l _ 10 (λ z. omega (arith, z)) e;
-      enters = refuses at l _ 10 (λ z. omega (arith, z)) e;
+      as-defined = λ os o. stopped (file s) k os at (l s) _ _ 10 (λ z. omega (arith, z)) e (unfit (file s) k os at (l s) 7 (s .pre .2) (refused {t = Fits s os} (tested (c .before .before) os (level-of s os o)) (c .before .if1 .taken)));
+      onward = refuses at (l s) _ 10 (λ z. omega (arith, z)) e;
+      stated = refuses at (l s) _ 10 (λ z. omega (arith, z)) e;
+      enters = refuses at (l s) _ 10 (λ z. omega (arith, z)) e;
     }
 
 derivation-part-requires : tie.Need-derivation-part-requires
@@ -130,39 +137,39 @@ derivation-part-requires c κs =
     let s = begun c in
     few (file s) (s .args .c) (s .pre .0 .reads)
 
-stated-requires : tie.Need-stated-requires
-stated-requires c κs =
-    let g = c .before in
+fresh-requires : tie.Need-fresh-requires
+fresh-requires c κs = search needs
+
+state-requires : tie.Need-state-requires
+state-requires c κs =
+    let g = c .before .before .before in
     let s = begun g in
     let k = s .args .c in
     let f = few (file s) k (s .pre .0 .reads) in
-    let e = c .derivation-part .ensures in (
+    let e = c .before .before .derivation-part .ensures in (
       subst (Lies 1024 (file s)) (sym e) (derivation-lies (file s) k (fills (file s) k (s .pre .0 .reads))),
-      subst (λ (p : Part). s .args .at .rule + 1 + k .a + k .b ≤ p .count) (sym e) (rows-there (file s) k (s .args .at) (s .args .l) (blocks g) (some g) (s .pre .0 .there)),
+      subst (λ (p : Part). s .args .at .rule + 1 + k .a + k .b ≤ p .count) (sym e) (rows-there (file s) k (s .args .at) (l s) (blocks g) (some g) (s .pre .0 .there)),
       f .arrays,
       f .buffers,
       subst (λ p. SmallForms (records-in (file s) p)) (sym e) (small-forms (file s) k (s .pre .0 .reads)),
+      subst Stated (sym (c .before .fresh .ensures)) zeros-stated,
     )
 
 signed-requires : tie.Need-signed-requires
 signed-requires c κs = search needs
 
-put-at-requires : tie.Need-put-at-requires
-put-at-requires c κs =
-    let g = c .before .before .before in
+rows-true-requires : tie.Need-rows-true-requires
+unfolding amount
+rows-true-requires c κs =
+    let t = c .before .before in
+    let g = fitted (t .before) in
     let s = begun g in
     let k = s .args .c in
     let f = few (file s) k (s .pre .0 .reads) in
-    (c .before .stated .ensures .1, subst (Small (2 ^ 16)) (sym (first-is c)) (record { abs = loop-fits (file s) k (s .args .at) (s .args .l) (blocks g) (some g) (s .pre .0 .reads) .first-small }), f .arrays, f .buffers)
+    (t .before .state .ensures .1, subst (Small (2 ^ 16)) (sym (first-is t)) (record { abs = loop-fits (file s) k (s .args .at) (l s) (blocks g) (some g) (s .pre .0 .reads) .first-small }), f .arrays, f .buffers)
 
-rows-true-requires : tie.Need-rows-true-requires
-rows-true-requires c κs =
-    let s = begun (c .before .before .before .before) in
-    let f = few (file s) (s .args .c) (s .pre .0 .reads) in
-    (f .arrays, f .buffers)
-
-refused-requires-2 : tie.Need-refused-requires-2
-refused-requires-2 c κs = search needs
+stays-requires-2 : tie.Need-stays-requires-2
+stays-requires-2 c κs = search needs
 
 returns-2 : tie.Need-returns-2
 returns-2 c =
@@ -170,41 +177,40 @@ returns-2 c =
     let s = from b in
     let k = s .args .c in
     let at = s .args .at in
-    let l = s .args .l in
-    let e = c .refused2 .ensures in
+    let e = ap (λ r. with-ledger r (l s)) (c .stays2 .ensures) in
     record {
-      as-defined = λ os o. stopped (file s) k os at l _ _ 14 (λ z. omega (arith, z)) e (fit (file s) k os at l 7 (s .pre .2) (goes (fitted b) os (level-of s os o)) ∙ ap (Check.at (here s os)) (for-enters (file s) k at l os (s .args .around .count) (loops (s .args .around)) _ (level-of s os o) o (stated-there (b .before .before .before) os) ∙ need-fails 14 _ _ (refused (held b) (c .before .if2 .taken))));
-      onward = refuses at l _ 14 (λ z. omega (arith, z)) e;
-      stated = refuses at l _ 14 (λ z. omega (arith, z)) e;
-      enters = refuses at l _ 14 (λ z. omega (arith, z)) e;
+      as-defined = λ os o. stopped (file s) k os at (l s) _ _ 14 (λ z. omega (arith, z)) e (fit (file s) k os at (l s) 7 (s .pre .2) (goes (fitted (stated b)) os (level-of s os o)) ∙ ap (Check.at (here s os)) (for-enters (file s) k at (l s) os (s .args .around .count) (loops (s .args .around)) _ (level-of s os o) o (stated-there (stated b) os) ∙ need-fails 14 _ _ (refused (held b) (c .before .if2 .taken))));
+      onward = refuses at (l s) _ 14 (λ z. omega (arith, z)) e;
+      stated = refuses at (l s) _ 14 (λ z. omega (arith, z)) e;
+      enters = refuses at (l s) _ 14 (λ z. omega (arith, z)) e;
     }
 
-add-t15 : tie.Need-add-t15
-add-t15 c =
+add-t20 : tie.Need-add-t20
+add-t20 c =
     let s = from (c .before .before) in
     let f = few (file s) (s .args .c) (s .pre .0 .reads) in
     omega (arith, f .rules, s .pre .0 .there)
 
-add-t16 : tie.Need-add-t16
-add-t16 c =
+add-t21 : tie.Need-add-t21
+add-t21 c =
     let s = from (c .before .before .before) in
     let f = few (file s) (s .args .c) (s .pre .0 .reads) in
     omega (arith, f .rules, f .arrays, s .pre .0 .there)
 
-add-t17 : tie.Need-add-t17
-add-t17 c =
+add-t22 : tie.Need-add-t22
+add-t22 c =
     let s = from (c .before .before .before .before) in
     let f = few (file s) (s .args .c) (s .pre .0 .reads) in
     omega (arith, f .rules, f .arrays, f .buffers, s .pre .0 .there)
 
-add-t18 : tie.Need-add-t18
-add-t18 c =
+add-t23 : tie.Need-add-t23
+add-t23 c =
     let s = from (c .before .before .before .before .before) in
     let f = few (file s) (s .args .c) (s .pre .0 .reads) in
     omega (arith, f .rules, s .pre .0 .stood .rules, s .pre .0 .stood .arrays)
 
-add-t19 : tie.Need-add-t19
-add-t19 c =
+add-t24 : tie.Need-add-t24
+add-t24 c =
     let s = from (c .before .before .before .before .before .before) in
     let f = few (file s) (s .args .c) (s .pre .0 .reads) in
     omega (arith, f .rules, s .pre .0 .stood .rules, s .pre .0 .stood .streams)
@@ -213,18 +219,17 @@ returns-3 : tie.Need-returns-3
 returns-3 c =
     let d = c .before .before .before .before .before in
     let b = d .before in
-    let g = fitted b in
+    let t = stated b in
+    let g = fitted t in
     let s = from b in
     let k = s .args .c in
     let at = s .args .at in
-    let l = s .args .l in
-    let t = b .before .before .before in
-    let r = t .stated in
+    let m = rows t in
     record {
-      as-defined = λ os o. went-in (file s) k at l os _ (r .result) (fit (file s) k os at l 7 (s .pre .2) (goes g os (level-of s os o)) ∙ ap (Check.at (here s os)) (for-enters (file s) k at l os (s .args .around .count) (loops (s .args .around)) _ (level-of s os o) o (stated-there t os) ∙ need-holds 14 _ _ (passed (held b) (d .if2 .left))));
-      onward = λ z. for-onward (file s) k at l (blocks g) (some g) (r .result) (s .pre .0 .stood) (s .pre .0 .there) (r .ensures .1);
-      stated = λ z. r .ensures .1;
-      enters = λ z. enters (file s) k at l (blocks g) (some g) (r .result);
+      as-defined = λ os o. went-in (file s) k at (l s) os _ m (fit (file s) k os at (l s) 7 (s .pre .2) (goes g os (level-of s os o)) ∙ ap (Check.at (here s os)) (for-enters (file s) k at (l s) os (s .args .around .count) (loops (s .args .around)) _ (level-of s os o) o (stated-there t os) ∙ need-holds 14 _ _ (passed (held b) (d .if2 .left))));
+      onward = λ z. for-onward (file s) k at (l s) (blocks g) (some g) m (s .pre .0 .stood) (s .pre .0 .there) (t .state .ensures .1);
+      stated = λ z. t .state .ensures .1;
+      enters = λ z. enters (file s) k at (l s) (blocks g) (some g) m;
     }
 
 pub enter-for-spec : {M : Type 1} → statement M
@@ -232,18 +237,18 @@ enter-for-spec =
     tie.close
     (tie.spec
     for-fits-requires
-    refused-requires
+    stays-requires
     returns
     derivation-part-requires
-    stated-requires
+    fresh-requires
+    state-requires
     signed-requires
-    put-at-requires
     rows-true-requires
-    refused-requires-2
+    stays-requires-2
     returns-2
-    add-t15
-    add-t16
-    add-t17
-    add-t18
-    add-t19
+    add-t20
+    add-t21
+    add-t22
+    add-t23
+    add-t24
     returns-3)

@@ -7,10 +7,9 @@ use borrow.Author.Needs.{needs}
 use Rattle.kernel.specs.Derivation.{Place, rule}
 use Rattle.kernel.specs.Check as Check
 use Rattle.parts.proofs.Parts.{K, few, registers-are}
+use Rattle.check_ledger.proofs.Bounds.{bounded-wider}
 use Rattle.check_rules.proofs.Fitting.{refused, passed}
-use Rattle.check_rules.proofs.Effects.{bounded-more}
-use Rattle.check_take.specs.declared.Taken.{Taken}
-use Rattle.check_take.specs.View.{place, fits-there}
+use Rattle.check_take.specs.View.{place, fits-there, with-ledger}
 use Rattle.check_take.proofs.Comes.{Fitting, unfit, fit}
 use Rattle.check_take.proofs.Taking.{refuses, stopped, went-on, if-opens}
 use Rattle.check_take.proofs.Standing.{near}
@@ -28,47 +27,43 @@ fits-is c d =
 fits-requires : tie.Need-fits-requires
 fits-requires c κs =
     let s = c .before in
-    ((λ z. omega (arith, z)), few (s .args .file .now) (s .args .c) (s .pre .0 .reads) .registers)
+    ((λ z. omega (arith, z)), few (s .args .file .now) (s .args .c) (s .pre .0 .1 .reads) .registers)
 
-refused-requires : tie.Need-refused-requires
-refused-requires c κs = search needs
+stays-requires : tie.Need-stays-requires
+stays-requires c κs = search needs
 
 returns : tie.Need-returns
-returns c =
+returns c l there =
     let s = c .before .before .before .before in
     let file = s .args .file .now in
     let k = s .args .c in
     let at = s .args .at in
-    let l = s .args .l in
-    let e = c .refused .ensures in
+    let e = ap (λ r. with-ledger r l) (c .stays .ensures) in
     record {
       as-defined = λ os. stopped file k os at l _ _ 10 (λ z. omega (arith, z)) e (unfit file k os at l 8 (s .pre .1) (refused {t = Fitting file k os at l 8} (fits-is (c .before .before) (place (k .a) (k .b) os at l)) (c .before .if1 .taken)));
       onward = refuses at l _ 10 (λ z. omega (arith, z)) e;
-      same-ledger = refuses at l _ 10 (λ z. omega (arith, z)) e;
       reads-on = refuses at l _ 10 (λ z. omega (arith, z)) e;
     }
 
 took-requires : tie.Need-took-requires
 took-requires c κs =
     let s = c .before .before .before in
-    let n = near (s .args .file .now) (s .args .c) (s .args .at) (s .args .l) (s .pre .0 .reads) (s .pre .0 .stood) in
+    let n = near (s .args .file .now) (s .args .c) (s .args .at) _ (s .pre .0 .1 .reads) (s .pre .0 .1 .stood) in
     (n .0, n .1, n .2, omega arith)
 
 returns-2 : tie.Need-returns-2
-returns-2 c =
+returns-2 c l there =
     let s = c .before .before .before .before in
     let file = s .args .file .now in
     let k = s .args .c in
     let at = s .args .at in
-    let l = s .args .l in
-    let e = c .took .ensures in
+    let e = ap (λ r. with-ledger r l) (c .took .ensures) in
     let f : (d : Place) → fits-there file k at 8 d ≡ true = λ d. passed {t = fits-there file k at 8 d} (fits-is (c .before .before) d) (c .before .if1 .left) in
     record {
       as-defined = λ os. went-on file k os at l _ _ 1 l _ e refl (fit file k os at l 8 (s .pre .1) (f _) ∙ ap (Check.at (place (k .a) (k .b) os at l)) (if-opens file k os at l));
-      onward = λ z. onward k at l _ 1 l (omega arith) (s .pre .0 .stood) (s .pre .0 .there) (bounded-more (at .rule) l (s .pre .0 .stood .bounded)) e;
-      same-ledger = λ z. ap (λ (r : Taken). r .ledger) e;
+      onward = λ z. onward k at l _ 1 l (omega arith) (there .stood) (there .there) (bounded-wider (there .stood .bounded) (omega arith)) e;
       reads-on = λ z. if-reads file k [] at l l _ e (f _);
     }
 
 pub enter-if-spec : {M : Type 1} → statement M
-enter-if-spec = tie.close (tie.spec fits-requires refused-requires returns took-requires returns-2)
+enter-if-spec = tie.close (tie.spec fits-requires stays-requires returns took-requires returns-2)

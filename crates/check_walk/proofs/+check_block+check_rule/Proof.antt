@@ -1,11 +1,13 @@
 -- The cycle {check_block, check_rule} meets its contracts, by the laws of `Walks` and `Stretches`. Derivation records left fall: twice of them
 -- for a rule, and one more for a block.
-use Prim.Native.Nat.{ℕ, _+_, _-_, _<_}
-use mathlib.Core.Path.{_≡_, sym, ap, subst, _∙_}
+use Prim.Native.Nat.{ℕ, _+_, _-_, _≤_, _<_}
+use mathlib.Core.Path.{_≡_, refl, sym, ap, subst, _∙_}
 use mathlib.Core.Bool.{true, false≢true}
 use mathlib.Core.List.{List, _∷_}
 use native.Mathlib.Omega.{arith}
+use lib.IntN.{ℤ}
 use borrow.Author.Needs.{needs}
+use borrow.Author.Tests.{not-true}
 use borrow.Fn.Kinds.{In}
 use borrow.Fn.PlainCycle.{Measures, is, falls, and}
 use Rattle.forms.specs.Code.{loop, loops}
@@ -14,11 +16,17 @@ use Rattle.kernel.specs.Reading.{open-if}
 use Rattle.kernel.specs.Derivation as S
 use Rattle.kernel.specs.Guarantees.{LoopFits}
 use Rattle.parts.specs.declared.Counts.{Counts}
+use Rattle.parts.specs.Records.{rec}
 use Rattle.parts.proofs.Room.{loop-room}
-use Rattle.check_take.specs.declared.Taken.{Taken}
-use Rattle.check_take.specs.View.{loop-there, rule-code, Closing, Stood, AtRule, Next, Onward, Enters, ReadsOn}
-use Rattle.check_take.proofs.Standing.{bounded-wider}
-use Rattle.check_walk.specs.View.{Goes, Further, Rests, Opens}
+use Rattle.check_ledger.proofs.Bounds.{bounded-wider}
+use Rattle.check_rules.specs.View.{arrays-taken, Steps}
+use Rattle.check_rules.proofs.Effects.{unchanged}
+use Rattle.check_take.specs.declared.Place.{Place}
+use Rattle.check_take.specs.View.{Taken, standing, with-ledger, past, loop-there, rule-code, Closing, Stood, AtRule, Next, Onward, Enters, ReadsOn, EnteredIf, Turned, TakenPlain, Refuses}
+use Rattle.check_take.proofs.Standing.{near, small-ledger}
+use Rattle.check_take.proofs.Going.{one-at-most}
+use Rattle.check_take.proofs.Plain.{plain-refused, plain-taken}
+use Rattle.check_walk.specs.View.{Goes, Further, Rests, Opens, Stops, RuleWalked}
 use Rattle.check_walk.proofs.Walks.{goes-none, goes-rule, goes-then, comes-inside}
 use Rattle.check_walk.proofs.Stretches.{closing-code, other-code, plain-code, stops-inside, for-body, for-left, if-entered, if-first, if-turned, if-second, if-left, further-none, further-then, further-opens, further-rule, further-for, further-if, opens-for, opens-if, opens-else}
 use Rattle.check_walk.proofs.check_block.Reads as check-block
@@ -30,37 +38,42 @@ use Rattle.check_walk.proofs.+check_block+check_rule.Lts-check_rule as 
 use Rattle.numbers.proofs.between.Reads as between-reads
 use Rattle.forms.proofs.Loops.deeper.Reads as deeper-reads
 use Rattle.parts.proofs.loop_of.Reads as loop-of-reads
+use Rattle.check_rules.proofs.arrays_taken.Reads as arrays-taken-reads
+use Rattle.check_rules.proofs.step.Reads as step-reads
+use Rattle.check_rules.proofs.steps.Reads as steps-reads
 use Rattle.check_take.proofs.array_next.Reads as array-next-reads
 use Rattle.check_take.proofs.code_next.Reads as code-next-reads
 use Rattle.check_take.proofs.enter_for.Reads as enter-for-reads
 use Rattle.check_take.proofs.enter_if.Reads as enter-if-reads
 use Rattle.check_take.proofs.leave_for.Reads as leave-for-reads
 use Rattle.check_take.proofs.leave_if.Reads as leave-if-reads
-use Rattle.check_take.proofs.plain.Reads as plain-reads
+use Rattle.check_take.proofs.refuses.Reads as refuses-reads
+use Rattle.check_take.proofs.stays.Reads as stays-reads
 use Rattle.check_take.proofs.stream_next.Reads as stream-next-reads
+use Rattle.check_take.proofs.took.Reads as took-reads
 use Rattle.check_take.proofs.turn.Reads as turn-reads
 use Rattle.check_walk.proofs.closing.Reads as closing-reads
 use Rattle.check_walk.proofs.over.Reads as over-reads
 use Rattle.check_walk.proofs.+check_block+check_rule.{statement as both}
 use Rattle.check_walk.proofs.+check_block+check_rule.Tie.{close}
 
-abbrev μ-check-block : Measures 1 check-block-kinds.ps ℕ
-μ-check-block κs a = (a .1 .0 .d - a .1 .1 .0 .at .rule) + (a .1 .0 .d - a .1 .1 .0 .at .rule) + 1
+abbrev μ-check-block : Measures 2 check-block-kinds.ps ℕ
+μ-check-block κs a = (a .1 .0 .d - a .1 .1 .0 .rule) + (a .1 .0 .d - a .1 .1 .0 .rule) + 1
 
-abbrev μ-check-rule : Measures 1 check-rule-kinds.ps ℕ
-μ-check-rule κs a = (a .1 .0 .d - a .1 .1 .0 .at .rule) + (a .1 .0 .d - a .1 .1 .0 .at .rule)
+abbrev μ-check-rule : Measures 2 check-rule-kinds.ps ℕ
+μ-check-rule κs a = (a .1 .0 .d - a .1 .1 .0 .rule) + (a .1 .0 .d - a .1 .1 .0 .rule)
 
-abbrev check-block-at : ℕ → In 1 check-block-kinds.ps
-check-block-at t = and 1 check-block-kinds.ps (is 1 check-block-kinds.ps μ-check-block t) check-block.Pre
+abbrev check-block-at : ℕ → In 2 check-block-kinds.ps
+check-block-at t = and 2 check-block-kinds.ps (is 2 check-block-kinds.ps μ-check-block t) check-block.Pre
 
-abbrev check-block-below : ℕ → In 1 check-block-kinds.ps
-check-block-below t = and 1 check-block-kinds.ps (falls 1 check-block-kinds.ps _<_ μ-check-block t) check-block.Pre
+abbrev check-block-below : ℕ → In 2 check-block-kinds.ps
+check-block-below t = and 2 check-block-kinds.ps (falls 2 check-block-kinds.ps _<_ μ-check-block t) check-block.Pre
 
-abbrev check-rule-at : ℕ → In 1 check-rule-kinds.ps
-check-rule-at t = and 1 check-rule-kinds.ps (is 1 check-rule-kinds.ps μ-check-rule t) check-rule.Pre
+abbrev check-rule-at : ℕ → In 2 check-rule-kinds.ps
+check-rule-at t = and 2 check-rule-kinds.ps (is 2 check-rule-kinds.ps μ-check-rule t) check-rule.Pre
 
-abbrev check-rule-below : ℕ → In 1 check-rule-kinds.ps
-check-rule-below t = and 1 check-rule-kinds.ps (falls 1 check-rule-kinds.ps _<_ μ-check-rule t) check-rule.Pre
+abbrev check-rule-below : ℕ → In 2 check-rule-kinds.ps
+check-rule-below t = and 2 check-rule-kinds.ps (falls 2 check-rule-kinds.ps _<_ μ-check-rule t) check-rule.Pre
 
 abbrev b-calls : ℕ → check-block-lts.Claims
 b-calls t = (
@@ -98,18 +111,28 @@ r-calls t = (
   turn-reads.Learnt,
   leave-if-reads.Asked,
   leave-if-reads.Learnt,
-  plain-reads.Asked,
-  plain-reads.Learnt,
+  refuses-reads.Asked,
+  refuses-reads.Learnt,
+  stays-reads.Asked,
+  stays-reads.Learnt,
+  steps-reads.Asked,
+  steps-reads.Learnt,
+  arrays-taken-reads.Asked,
+  arrays-taken-reads.Learnt,
+  took-reads.Asked,
+  took-reads.Learnt,
+  step-reads.Asked,
+  step-reads.Learnt,
 )
 
 -- ---- a block
 
 -- the walk of the whole block has come here
 abbrev check-block-Inv-loop : check-block-lts.InvT-loop
-check-block-Inv-loop file c ls inside v₀ v = (v .number ≡ 0) × Further file c v₀ v × ((os : List S.Opened) → S.loops os ≡ loops ls → Goes file c os v₀ os v)
+check-block-Inv-loop file c l₀ ls inside at₀ l at = Further file c at₀ at l × ((os : List S.Opened) → S.loops os ≡ loops ls → Goes file c os (standing at₀ l₀) os (standing at l))
 
 abbrev check-block-μ-loop : check-block-lts.MeasureT-loop
-check-block-μ-loop file c ls inside v₀ v = c .d - v .at .rule
+check-block-μ-loop file c l₀ ls inside at₀ l at = c .d - at .rule
 
 -- at a turn
 module _ (t : ℕ) (c : check-block-lts.At-loop (b-calls t) (check-block-at t) check-block.Post check-block-Inv-loop check-block-μ-loop) where
@@ -122,27 +145,33 @@ module _ (t : ℕ) (c : check-block-lts.At-loop (b-calls t) (check-block-at t) c
   abbrev check-block-counts : Counts
   check-block-counts = check-block-start .args .c
 
+  abbrev check-block-from : Taken
+  check-block-from = standing (check-block-start .args .from) (check-block-start .args .l .now)
+
+  abbrev check-block-here : Taken
+  check-block-here = standing (c .loop .at) (c .loop .l)
+
   -- the whole block goes on as from here, whatever comes of it
-  check-block-goes : (r : Taken) (os : List S.Opened) → S.loops os ≡ loops (check-block-start .args .ls) → Goes check-block-file check-block-counts os (c .loop .v) os r → Goes check-block-file check-block-counts os (check-block-start .args .w) os r
-  check-block-goes r os k g = goes-then check-block-file check-block-counts os os os (check-block-start .args .w) (c .loop .v) r (c .loop .inv .2 os k) (c .loop .inv .0) g
+  check-block-goes : (r : Taken) (os : List S.Opened) → S.loops os ≡ loops (check-block-start .args .ls) → Goes check-block-file check-block-counts os check-block-here os r → Goes check-block-file check-block-counts os check-block-from os r
+  check-block-goes r os k g = goes-then check-block-file check-block-counts os os os check-block-from check-block-here r (c .loop .inv .1 os k) refl g
 
   -- and where it stops here
-  check-block-rests : (r : Taken) → (r ≡ c .loop .v) × Rests check-block-file check-block-counts (check-block-start .args .inside) r → Further check-block-file check-block-counts (check-block-start .args .w) r × Rests check-block-file check-block-counts (check-block-start .args .inside) r
-  check-block-rests r (q, s) = (subst (Further check-block-file check-block-counts (check-block-start .args .w)) (sym q) (c .loop .inv .1), s)
+  check-block-rests : (r : Taken) → (r ≡ check-block-here) × Rests check-block-file check-block-counts (check-block-start .args .inside) (r .at) → Further check-block-file check-block-counts (check-block-from .at) (r .at) (r .ledger) × Rests check-block-file check-block-counts (check-block-start .args .inside) (r .at)
+  check-block-rests r (q, s) = (subst (λ (r : Taken). Further check-block-file check-block-counts (check-block-from .at) (r .at) (r .ledger)) (sym q) (c .loop .inv .0), s)
 
 -- at a rule, whose code has been read
 module _ (t : ℕ) (c : check-block-lts.After-between (b-calls t) (check-block-at t) check-block.Post check-block-Inv-loop check-block-μ-loop) where
   abbrev check-block-turn : check-block-lts.At-loop (b-calls t) (check-block-at t) check-block.Post check-block-Inv-loop check-block-μ-loop
   check-block-turn = c .before .before .before .before .before
 
-  abbrev check-block-there : check-block-turn .loop .v .at .rule < check-block-counts t check-block-turn .d
+  abbrev check-block-there : check-block-turn .loop .at .rule < check-block-counts t check-block-turn .d
   check-block-there = c .before .before .if1 .taken
 
 check-block-loop-holds : (t : ℕ) → check-block-lts.Need-loop-holds (b-calls t) (check-block-at t) check-block.Post check-block-Inv-loop check-block-μ-loop
 check-block-loop-holds t c =
     let a = c .before .args in
     let p = c .before .pre .1 in
-    (p .1, further-none (a .file .now) (a .c) (a .w) (p .2), λ os k. goes-none (a .file .now) (a .c) os (a .w) (p .1))
+    (further-none (a .file .now) (a .c) (a .from) (a .l .now) (p .1), λ os k. goes-none (a .file .now) (a .c) os (standing (a .from) (a .l .now)) refl)
 
 check-block-code-next-requires : (t : ℕ) → check-block-lts.Need-code-next-requires (b-calls t) (check-block-at t) check-block.Post check-block-Inv-loop check-block-μ-loop
 check-block-code-next-requires t c κs = (check-block-start t (c .before .before .before) .pre .1 .0, c .if1 .taken)
@@ -151,51 +180,58 @@ check-block-between-requires : (t : ℕ) → check-block-lts.Need-between-requir
 check-block-between-requires t c κs = search needs
 
 check-block-closing-requires : (t : ℕ) → check-block-lts.Need-closing-requires (b-calls t) (check-block-at t) check-block.Post check-block-Inv-loop check-block-μ-loop
-check-block-closing-requires t c κs =
-    let n = c .before .before .code-next in
-    (check-block-turn t (c .before) .loop .inv .0, check-block-there t (c .before), subst Closing (n .ensures) (closing-code (n .result) (sym (c .before .between .ensures) ∙ c .if2 .taken)))
+check-block-closing-requires t c κs = search needs
 
 check-block-returns : (t : ℕ) → check-block-lts.Need-returns (b-calls t) (check-block-at t) check-block.Post check-block-Inv-loop check-block-μ-loop
 check-block-returns t c =
-    let b = check-block-turn t (c .before .before) in
-    ((λ os k o. check-block-goes t b _ os k (c .closing .ensures .0 os o)), λ z. check-block-rests t b _ (c .closing .ensures .1 z))
+    let k = c .before .before in
+    let b = check-block-turn t k in
+    let n = k .before .code-next in
+    let code = subst Closing (n .ensures) (closing-code (n .result) (sym (k .between .ensures) ∙ c .before .if2 .taken)) in
+    let e = c .closing .ensures (check-block-file t b) (check-block-counts t b) (b .loop .l) (check-block-there t k) code in
+    ((λ os k o. check-block-goes t b _ os k (e .0 os o)), λ z. check-block-rests t b _ (e .1 z))
 
 check-block-check-rule-requires : (t : ℕ) → check-block-lts.Need-check-rule-requires (b-calls t) (check-block-at t) check-block.Post check-block-Inv-loop check-block-μ-loop
 check-block-check-rule-requires t c κs =
-    let b = check-block-turn t (c .before) in
+    let k = c .before .before in
+    let b = check-block-turn t k in
     let s = check-block-start t b in
     let p = s .pre .1 in
     let i = b .loop .inv in
-    let n = c .before .before .code-next in (
-      omega (arith, s .pre .0, i .1 .further-on, check-block-there t (c .before)),
-      (p .0, i .1 .stood, check-block-there t (c .before), p .3, p .4, further-opens (s .args .file .now) (s .args .c) (s .args .w) (b .loop .v) (s .args .ls) (i .1) (p .5), n .ensures, other-code (n .result) (λ y. false≢true (sym (c .if2 .left) ∙ c .before .between .ensures ∙ y))),
+    let n = k .before .code-next in (
+      omega (arith, s .pre .0, i .0 .further-on, check-block-there t k),
+      (p .0, i .0 .stood, check-block-there t k, p .2, p .3, further-opens (s .args .file .now) (s .args .c) (s .args .from) (b .loop .at) (b .loop .l) (s .args .ls) (i .0) (p .4), n .ensures, other-code (n .result) (λ y. false≢true (sym (c .before .if2 .left) ∙ k .between .ensures ∙ y))),
     )
 
 check-block-returns-2 : (t : ℕ) → check-block-lts.Need-returns-2 (b-calls t) (check-block-at t) check-block.Post check-block-Inv-loop check-block-μ-loop
 check-block-returns-2 t c =
     let r = c .before .before .check-rule in
-    ((λ os k o. check-block-goes t (check-block-turn t (c .before .before .before .before)) _ os k (r .ensures .0 os k)), λ z. absurd (c .if3 .taken z))
+    ((λ os k o. check-block-goes t (check-block-turn t (c .before .before .before .before .before)) _ os k (r .ensures .0 os k)), λ z. absurd (c .if3 .taken z))
 
 check-block-loop-less : (t : ℕ) → check-block-lts.Need-loop-less (b-calls t) (check-block-at t) check-block.Post check-block-Inv-loop check-block-μ-loop
-check-block-loop-less t c = omega (arith, check-block-there t (c .before .before .before .before), c .before .before .check-rule .ensures .1 (c .if3 .left) .1)
+check-block-loop-less t c =
+    let k = c .before .before .before .before .before .before in
+    omega (arith, check-block-there t k, c .before .before .before .check-rule .ensures .1 (c .before .if3 .left) .1)
 
 check-block-loop-again : (t : ℕ) → check-block-lts.Need-loop-again (b-calls t) (check-block-at t) check-block.Post check-block-Inv-loop check-block-μ-loop
 check-block-loop-again t c =
-    let b = check-block-turn t (c .before .before .before .before) in
+    let b = check-block-turn t (c .before .before .before .before .before .before) in
     let s = check-block-start t b in
-    let r = c .before .before .check-rule in
-    let z = c .if3 .left in
-    (z, further-then (s .args .file .now) (s .args .c) (s .args .w) (b .loop .v) (r .result) (b .loop .inv .1) (r .ensures .1 z .0), λ os k. check-block-goes t b (r .result) os k (r .ensures .0 os k))
+    let r = c .before .before .before .check-rule in
+    let l = r .last .1 .1 .1 .0 in
+    let z = c .before .if3 .left in (
+      further-then (s .args .file .now) (s .args .c) (s .args .from) (b .loop .at) (r .result .at) (b .loop .l) l (b .loop .inv .0) (r .ensures .1 z .0),
+      λ os k. check-block-goes t b (standing (r .result .at) l) os k (subst (λ n. Goes (s .args .file .now) (s .args .c) os (check-block-here t b) os (record { number = n; at = r .result .at; ledger = l })) z (r .ensures .0 os k)),
+    )
 
 check-block-over-requires : (t : ℕ) → check-block-lts.Need-over-requires (b-calls t) (check-block-at t) check-block.Post check-block-Inv-loop check-block-μ-loop
-check-block-over-requires t c κs = (c .before .before .before .loop .inv .0, c .if1 .left)
+check-block-over-requires t c κs = c .if1 .left
 
 check-block-returns-3 : (t : ℕ) → check-block-lts.Need-returns-3 (b-calls t) (check-block-at t) check-block.Post check-block-Inv-loop check-block-μ-loop
 check-block-returns-3 t c =
     let b = c .before .before .before .before in
-    let f = check-block-file t b in
-    let e = c .over .ensures in
-    ((λ os k o. check-block-goes t b _ os k (e f .0 os o)), λ z. check-block-rests t b _ (e f .1 z))
+    let e = c .over .ensures (check-block-file t b) (b .loop .l) in
+    ((λ os k o. check-block-goes t b _ os k (e .0 os o)), λ z. check-block-rests t b _ (e .1 z))
 
 -- ---- a rule
 
@@ -210,23 +246,26 @@ module _ (t : ℕ) (c : check-rule-lts.After-stream-next (r-calls t) (check-rule
   abbrev check-rule-counts : Counts
   check-rule-counts = check-rule-start .args .c
 
-  abbrev check-rule-from : Taken
-  check-rule-from = check-rule-start .args .w
+  abbrev check-rule-ledger : List ℤ
+  check-rule-ledger = check-rule-start .args .l .now
 
-  abbrev check-rule-opens : Opens check-rule-file check-rule-counts check-rule-from (check-rule-start .args .ls)
+  abbrev check-rule-from : Taken
+  check-rule-from = standing (check-rule-start .args .at) check-rule-ledger
+
+  abbrev check-rule-opens : Opens check-rule-file check-rule-counts (check-rule-from .at) (check-rule-start .args .ls)
   check-rule-opens = check-rule-start .pre .1 .5
 
-  check-rule-there : AtRule check-rule-file check-rule-counts (check-rule-from .at) (check-rule-from .ledger)
+  check-rule-there : AtRule check-rule-file check-rule-counts (check-rule-from .at) check-rule-ledger
   check-rule-there = record { reads = check-rule-start .pre .1 .0; stood = check-rule-start .pre .1 .1; there = check-rule-start .pre .1 .2 }
 
   check-rule-next : Next check-rule-file check-rule-counts (check-rule-from .at) (c .before .array-next .result) (c .stream-next .result)
   check-rule-next = record { array-is = c .before .array-next .ensures; stream-is = c .stream-next .ensures }
 
   -- a block inside has been walked to v, where a rule closes it
-  check-rule-closes : (v : Taken) → Stood check-rule-counts (v .at) (v .ledger) → Rests check-rule-file check-rule-counts true v
+  check-rule-closes : (v : Taken) → Stood check-rule-counts (v .at) (v .ledger) → Rests check-rule-file check-rule-counts true (v .at)
       → AtRule check-rule-file check-rule-counts (v .at) (v .ledger) × Closing (rule-code check-rule-file check-rule-counts (v .at))
   check-rule-closes v h s =
-      let (there, code) = comes-inside check-rule-file check-rule-counts v s in
+      let (there, code) = comes-inside check-rule-file check-rule-counts (v .at) s in
       (record { reads = check-rule-start .pre .1 .0; stood = h; there = there }, code)
 
 check-rule-array-next-requires : (t : ℕ) → check-rule-lts.Need-array-next-requires (r-calls t) (check-rule-at t) check-rule.Post
@@ -239,26 +278,28 @@ check-rule-stream-next-requires t c κs = c .before .before .pre .1 .0
 
 check-rule-enter-for-requires : (t : ℕ) → check-rule-lts.Need-enter-for-requires (r-calls t) (check-rule-at t) check-rule.Post
 check-rule-enter-for-requires t c κs =
-    let p = check-rule-start t (c .before) .pre .1 in
-    (check-rule-there t (c .before), p .4, sym (p .6) ∙ c .if1 .taken, check-rule-next t (c .before))
+    let b = c .before .before in
+    let p = check-rule-start t b .pre .1 in
+    (check-rule-there t b, p .4, sym (p .6) ∙ c .before .if1 .taken, check-rule-next t b)
 
 check-rule-returns : (t : ℕ) → check-rule-lts.Need-returns (r-calls t) (check-rule-at t) check-rule.Post
 check-rule-returns t c =
-    let b = c .before .before .before .before in
+    let b = c .before .before .before .before .before in
     let s = check-rule-start t b in
     let e = c .before .before .enter-for in
+    let l = e .last .1 .1 .1 .0 in
     let o = S.in-for (loop-there (check-rule-file t b) (check-rule-counts t b) (check-rule-from t b .at)) _ in (
-      stops-inside (check-rule-file t b) (check-rule-counts t b) (s .args .ls) (check-rule-from t b) (e .result) o (λ os k. goes-rule (check-rule-file t b) (check-rule-counts t b) os (o ∷ os) (check-rule-from t b) (e .result) (s .pre .1 .2) (e .ensures .as-defined os k)) (c .if2 .taken),
+      stops-inside (check-rule-file t b) (check-rule-counts t b) (s .args .ls) (check-rule-from t b) (with-ledger (e .result) l) l o (λ os k. goes-rule (check-rule-file t b) (check-rule-counts t b) os (o ∷ os) (check-rule-from t b) (with-ledger (e .result) l) (s .pre .1 .2) (e .ensures .as-defined os k)) (c .if2 .taken),
       (λ z. absurd (c .if2 .taken z)),
     )
 
 -- entered
 module _ (t : ℕ) (c : check-rule-lts.Else2 (r-calls t) (check-rule-at t) check-rule.Post) where
   abbrev check-rule-for-read : check-rule-lts.After-stream-next (r-calls t) (check-rule-at t) check-rule.Post
-  check-rule-for-read = c .before .before .before .before
+  check-rule-for-read = c .before .before .before .before .before
 
   abbrev check-rule-for-in : Taken
-  check-rule-for-in = c .before .before .enter-for .result
+  check-rule-for-in = with-ledger (c .before .before .enter-for .result) (c .before .before .enter-for .last .1 .1 .1 .0)
 
   abbrev check-rule-for-onward : Onward (check-rule-counts t check-rule-for-read) (check-rule-from t check-rule-for-read .at) check-rule-for-in
   check-rule-for-onward = c .before .before .enter-for .ensures .onward (c .if2 .left)
@@ -268,60 +309,76 @@ module _ (t : ℕ) (c : check-rule-lts.Else2 (r-calls t) (check-rule-at t) check
 
 -- its loop has been read
 module _ (t : ℕ) (c : check-rule-lts.After-loop-of (r-calls t) (check-rule-at t) check-rule.Post) where
-  check-rule-for-same : loop (c .loop-of .result) ≡ loop-there (check-rule-file t (check-rule-for-read t (c .before))) (check-rule-counts t (check-rule-for-read t (c .before))) (check-rule-from t (check-rule-for-read t (c .before)) .at)
-  check-rule-for-same = c .loop-of .ensures ∙ ap loop-of (check-rule-next t (check-rule-for-read t (c .before)) .array-is)
+  abbrev check-rule-for-entered : check-rule-lts.Else2 (r-calls t) (check-rule-at t) check-rule.Post
+  check-rule-for-entered = c .before .before
+
+  check-rule-for-same : loop (c .loop-of .result) ≡ loop-there (check-rule-file t (check-rule-for-read t check-rule-for-entered)) (check-rule-counts t (check-rule-for-read t check-rule-for-entered)) (check-rule-from t (check-rule-for-read t check-rule-for-entered) .at)
+  check-rule-for-same = c .loop-of .ensures ∙ ap loop-of (check-rule-next t (check-rule-for-read t check-rule-for-entered) .array-is)
 
   check-rule-for-fits : LoopFits (loop (c .loop-of .result))
-  check-rule-for-fits = subst LoopFits (sym check-rule-for-same) (check-rule-for-enters t (c .before) .fits)
+  check-rule-for-fits = subst LoopFits (sym check-rule-for-same) (check-rule-for-enters t check-rule-for-entered .fits)
 
 check-rule-loop-of-requires : (t : ℕ) → check-rule-lts.Need-loop-of-requires (r-calls t) (check-rule-at t) check-rule.Post
 check-rule-loop-of-requires t c κs = search needs
 
 check-rule-deeper-requires : (t : ℕ) → check-rule-lts.Need-deeper-requires (r-calls t) (check-rule-at t) check-rule.Post
 check-rule-deeper-requires t c κs =
-    let b = check-rule-for-read t (c .before) in
-    (omega (arith, check-rule-for-enters t (c .before) .room, check-rule-opens t b .level), check-rule-start t b .pre .1 .3, loop-room (c .loop-of .result) (check-rule-for-fits t c))
+    let i = check-rule-for-entered t c in
+    let b = check-rule-for-read t i in
+    (omega (arith, check-rule-for-enters t i .room, check-rule-opens t b .level), check-rule-start t b .pre .1 .3, loop-room (c .loop-of .result) (check-rule-for-fits t c))
 
 check-rule-check-block-requires : (t : ℕ) → check-rule-lts.Need-check-block-requires (r-calls t) (check-rule-at t) check-rule.Post
 check-rule-check-block-requires t c κs =
-    let i = c .before .before in
+    let d = c .before .deeper in
+    let i = check-rule-for-entered t (c .before .before) in
     let b = check-rule-for-read t i in
-    let s = check-rule-start t b in
-    let d = c .deeper in (
+    let s = check-rule-start t b in (
       omega (arith, s .pre .0, check-rule-for-onward t i .further-on, s .pre .1 .2),
-      (s .pre .1 .0, i .if2 .left, check-rule-for-onward t i .stood, d .ensures .1, omega (arith, d .ensures .2, check-rule-for-enters t i .room, check-rule-opens t b .level), opens-for (check-rule-file t b) (check-rule-counts t b) (check-rule-from t b) (check-rule-for-in t i) (s .args .ls) (d .result) (check-rule-opens t b) (check-rule-for-enters t i) (d .ensures .2)),
+      (s .pre .1 .0, check-rule-for-onward t i .stood, d .ensures .1, omega (arith, d .ensures .2, check-rule-for-enters t i .room, check-rule-opens t b .level), opens-for (check-rule-file t b) (check-rule-counts t b) (check-rule-from t b .at) (check-rule-for-in t i .at) (s .args .ls) (d .result) (check-rule-opens t b) (check-rule-for-enters t i) (d .ensures .2)),
     )
+
+-- what its body comes to
+module _ (t : ℕ) (c : check-rule-lts.After-check-block (r-calls t) (check-rule-at t) check-rule.Post) where
+  abbrev check-rule-for-deep : check-rule-lts.After-deeper (r-calls t) (check-rule-at t) check-rule.Post
+  check-rule-for-deep = c .before .before
+
+  abbrev check-rule-for-end : Taken
+  check-rule-for-end = with-ledger (c .check-block .result) (c .check-block .last .1 .1 .1 .0)
 
 check-rule-returns-2 : (t : ℕ) → check-rule-lts.Need-returns-2 (r-calls t) (check-rule-at t) check-rule.Post
 check-rule-returns-2 t c =
-    let d = c .before .before .before in
-    let i = d .before .before in
+    let v = c .before .before in
+    let d = check-rule-for-deep t v in
+    let i = check-rule-for-entered t (d .before) in
     let b = check-rule-for-read t i in
     let s = check-rule-start t b in
-    let v = c .before .before .check-block in (
-      stops-inside (check-rule-file t b) (check-rule-counts t b) (s .args .ls) (check-rule-from t b) (v .result) _ (for-body (check-rule-file t b) (check-rule-counts t b) (s .args .ls) (d .deeper .result) (check-rule-from t b) (check-rule-for-in t i) (d .before .loop-of .result) (check-rule-for-same t (d .before)) (d .deeper .ensures .0) (s .pre .1 .2) (i .before .before .enter-for .ensures .as-defined) (v .result) (i .if2 .left) (v .ensures .0)) (c .if3 .taken),
+    let end = check-rule-for-end t v in (
+      stops-inside (check-rule-file t b) (check-rule-counts t b) (s .args .ls) (check-rule-from t b) end (end .ledger) _ (for-body (check-rule-file t b) (check-rule-counts t b) (s .args .ls) (d .deeper .result) (check-rule-from t b) (check-rule-for-in t i) (d .before .loop-of .result) (check-rule-for-same t (d .before)) (d .deeper .ensures .0) (s .pre .1 .2) (i .before .before .enter-for .ensures .as-defined) end (i .if2 .left) (v .check-block .ensures .0)) (c .if3 .taken),
       (λ z. absurd (c .if3 .taken z)),
     )
 
 -- its body has been walked
 module _ (t : ℕ) (c : check-rule-lts.Else3 (r-calls t) (check-rule-at t) check-rule.Post) where
-  abbrev check-rule-for-deep : check-rule-lts.After-deeper (r-calls t) (check-rule-at t) check-rule.Post
-  check-rule-for-deep = c .before .before .before
+  abbrev check-rule-for-body : check-rule-lts.After-check-block (r-calls t) (check-rule-at t) check-rule.Post
+  check-rule-for-body = c .before .before
 
-  abbrev check-rule-for-walked : Further (check-rule-file t (check-rule-for-read t (check-rule-for-deep .before .before))) (check-rule-counts t (check-rule-for-read t (check-rule-for-deep .before .before))) (check-rule-for-in t (check-rule-for-deep .before .before)) (c .before .before .check-block .result)
-  check-rule-for-walked = c .before .before .check-block .ensures .1 (c .if3 .left) .0
+  abbrev check-rule-for-begun : check-rule-lts.Else2 (r-calls t) (check-rule-at t) check-rule.Post
+  check-rule-for-begun = check-rule-for-entered t (check-rule-for-deep t check-rule-for-body .before)
 
-  abbrev check-rule-for-rests : Rests (check-rule-file t (check-rule-for-read t (check-rule-for-deep .before .before))) (check-rule-counts t (check-rule-for-read t (check-rule-for-deep .before .before))) true (c .before .before .check-block .result)
-  check-rule-for-rests = c .before .before .check-block .ensures .1 (c .if3 .left) .1
+  abbrev check-rule-for-walked : Further (check-rule-file t (check-rule-for-read t check-rule-for-begun)) (check-rule-counts t (check-rule-for-read t check-rule-for-begun)) (check-rule-for-in t check-rule-for-begun .at) (check-rule-for-end t check-rule-for-body .at) (check-rule-for-end t check-rule-for-body .ledger)
+  check-rule-for-walked = check-rule-for-body .check-block .ensures .1 (c .if3 .left) .0
+
+  check-rule-for-closes : AtRule (check-rule-file t (check-rule-for-read t check-rule-for-begun)) (check-rule-counts t (check-rule-for-read t check-rule-for-begun)) (check-rule-for-end t check-rule-for-body .at) (check-rule-for-end t check-rule-for-body .ledger) × Closing (rule-code (check-rule-file t (check-rule-for-read t check-rule-for-begun)) (check-rule-counts t (check-rule-for-read t check-rule-for-begun)) (check-rule-for-end t check-rule-for-body .at))
+  check-rule-for-closes = check-rule-closes t (check-rule-for-read t check-rule-for-begun) (check-rule-for-end t check-rule-for-body) (check-rule-for-walked .stood) (check-rule-for-body .check-block .ensures .1 (c .if3 .left) .1)
 
 check-rule-leave-for-requires : (t : ℕ) → check-rule-lts.Need-leave-for-requires (r-calls t) (check-rule-at t) check-rule.Post
 check-rule-leave-for-requires t c κs =
-    let d = check-rule-for-deep t c in
-    let i = d .before .before in
-    let b = check-rule-for-read t i in
-    let (there, code) = check-rule-closes t b (c .before .before .check-block .result) (check-rule-for-walked t c .stood) (check-rule-for-rests t c) in (
-      there,
-      code,
+    let k = c .before .before in
+    let d = check-rule-for-deep t (check-rule-for-body t k) in
+    let i = check-rule-for-begun t k in
+    let b = check-rule-for-read t i in (
+      check-rule-for-closes t k .0,
+      check-rule-for-closes t k .1,
       i .before .before .enter-for .ensures .stated (i .if2 .left),
       check-rule-for-fits t (d .before),
       omega (arith, d .deeper .ensures .2),
@@ -330,14 +387,17 @@ check-rule-leave-for-requires t c κs =
 
 check-rule-returns-3 : (t : ℕ) → check-rule-lts.Need-returns-3 (r-calls t) (check-rule-at t) check-rule.Post
 check-rule-returns-3 t c =
-    let d = check-rule-for-deep t (c .before) in
-    let i = d .before .before in
+    let k = c .before .before .before in
+    let v = check-rule-for-body t k in
+    let d = check-rule-for-deep t v in
+    let i = check-rule-for-begun t k in
     let b = check-rule-for-read t i in
     let s = check-rule-start t b in
-    let v = c .before .before .before .check-block in
-    let r = c .leave-for in (
-      for-left (check-rule-file t b) (check-rule-counts t b) (s .args .ls) (d .deeper .result) (check-rule-from t b) (check-rule-for-in t i) (d .before .loop-of .result) (check-rule-for-same t (d .before)) (d .deeper .ensures .0) (s .pre .1 .2) (i .before .before .enter-for .ensures .as-defined) (v .result) (r .result) (i .if2 .left) (v .ensures .0) (c .before .if3 .left) (check-rule-closes t b (v .result) (check-rule-for-walked t (c .before) .stood) (check-rule-for-rests t (c .before)) .0 .there) (r .ensures .as-defined),
-      (λ z. further-for (check-rule-file t b) (check-rule-counts t b) (check-rule-from t b) (check-rule-for-in t i) (v .result) (r .result) (check-rule-for-onward t i) (i .before .before .enter-for .ensures .enters (i .if2 .left)) (check-rule-for-walked t (c .before)) (r .ensures .onward z) (r .ensures .reads-on z)),
+    let end = check-rule-for-end t v in
+    let r = c .leave-for in
+    let left = with-ledger (r .result) (r .last .1 .1 .1 .0) in (
+      for-left (check-rule-file t b) (check-rule-counts t b) (s .args .ls) (d .deeper .result) (check-rule-from t b) (check-rule-for-in t i) (d .before .loop-of .result) (check-rule-for-same t (d .before)) (d .deeper .ensures .0) (s .pre .1 .2) (i .before .before .enter-for .ensures .as-defined) end left (i .if2 .left) (v .check-block .ensures .0) (k .if3 .left) (check-rule-for-closes t k .0 .there) (r .ensures .as-defined),
+      (λ z. further-for (check-rule-file t b) (check-rule-counts t b) (check-rule-from t b .at) (check-rule-for-in t i) end left (check-rule-for-onward t i) (i .before .before .enter-for .ensures .enters (i .if2 .left)) (check-rule-for-walked t k) (r .ensures .onward z) (r .ensures .reads-on z)),
     )
 
 -- ---- an if
@@ -345,165 +405,302 @@ check-rule-returns-3 t c =
 check-rule-enter-if-requires : (t : ℕ) → check-rule-lts.Need-enter-if-requires (r-calls t) (check-rule-at t) check-rule.Post
 check-rule-enter-if-requires t c κs =
     let b = c .before .before in
-    (check-rule-there t b, sym (check-rule-start t b .pre .1 .6) ∙ c .if4 .taken, check-rule-next t b)
+    ((check-rule-ledger t b, check-rule-there t b), sym (check-rule-start t b .pre .1 .6) ∙ c .if4 .taken, check-rule-next t b)
+
+-- what entering it comes to: the ledger stays
+module _ (t : ℕ) (c : check-rule-lts.After-enter-if (r-calls t) (check-rule-at t) check-rule.Post) where
+  abbrev check-rule-if-read : check-rule-lts.After-stream-next (r-calls t) (check-rule-at t) check-rule.Post
+  check-rule-if-read = c .before .before .before
+
+  abbrev check-rule-if-in : Taken
+  check-rule-if-in = with-ledger (c .enter-if .result) (check-rule-ledger t check-rule-if-read)
+
+  check-rule-if-entered : EnteredIf (check-rule-file t check-rule-if-read) (check-rule-counts t check-rule-if-read) (check-rule-from t check-rule-if-read .at) (check-rule-ledger t check-rule-if-read) check-rule-if-in
+  check-rule-if-entered = c .enter-if .ensures (check-rule-ledger t check-rule-if-read) (check-rule-there t check-rule-if-read)
 
 check-rule-returns-4 : (t : ℕ) → check-rule-lts.Need-returns-4 (r-calls t) (check-rule-at t) check-rule.Post
 check-rule-returns-4 t c =
-    let b = c .before .before .before .before .before in
-    let s = check-rule-start t b in
-    let e = c .before .before .enter-if in (
-      stops-inside (check-rule-file t b) (check-rule-counts t b) (s .args .ls) (check-rule-from t b) (e .result) _ (if-entered (check-rule-file t b) (check-rule-counts t b) (s .args .ls) (check-rule-from t b) (e .result) (s .pre .1 .2) (e .ensures .as-defined)) (c .if5 .taken),
+    let e = c .before .before in
+    let b = check-rule-if-read t e in
+    let s = check-rule-start t b in (
+      stops-inside (check-rule-file t b) (check-rule-counts t b) (s .args .ls) (check-rule-from t b) (check-rule-if-in t e) (check-rule-ledger t b) _ (if-entered (check-rule-file t b) (check-rule-counts t b) (s .args .ls) (check-rule-from t b) (check-rule-if-in t e) (s .pre .1 .2) (check-rule-if-entered t e .as-defined)) (c .if5 .taken),
       (λ z. absurd (c .if5 .taken z)),
     )
 
 -- entered
 module _ (t : ℕ) (c : check-rule-lts.Else5 (r-calls t) (check-rule-at t) check-rule.Post) where
-  abbrev check-rule-if-read : check-rule-lts.After-stream-next (r-calls t) (check-rule-at t) check-rule.Post
-  check-rule-if-read = c .before .before .before .before .before
+  abbrev check-rule-if-at : check-rule-lts.After-enter-if (r-calls t) (check-rule-at t) check-rule.Post
+  check-rule-if-at = c .before .before
 
-  abbrev check-rule-if-in : Taken
-  check-rule-if-in = c .before .before .enter-if .result
+  abbrev check-rule-if-onward : Onward (check-rule-counts t (check-rule-if-read t check-rule-if-at)) (check-rule-from t (check-rule-if-read t check-rule-if-at) .at) (check-rule-if-in t check-rule-if-at)
+  check-rule-if-onward = check-rule-if-entered t check-rule-if-at .onward (c .if5 .left)
 
-  abbrev check-rule-if-onward : Onward (check-rule-counts t check-rule-if-read) (check-rule-from t check-rule-if-read .at) check-rule-if-in
-  check-rule-if-onward = c .before .before .enter-if .ensures .onward (c .if5 .left)
-
-  check-rule-if-reads : ReadsOn (check-rule-file t check-rule-if-read) (check-rule-counts t check-rule-if-read) (open-if ∷ check-rule-opens t check-rule-if-read .opens) (check-rule-if-in .at)
-  check-rule-if-reads = c .before .before .enter-if .ensures .reads-on (c .if5 .left) (check-rule-opens t check-rule-if-read .opens) (check-rule-opens t check-rule-if-read .reads-on)
+  check-rule-if-reads : ReadsOn (check-rule-file t (check-rule-if-read t check-rule-if-at)) (check-rule-counts t (check-rule-if-read t check-rule-if-at)) (open-if ∷ check-rule-opens t (check-rule-if-read t check-rule-if-at) .opens) (check-rule-if-in t check-rule-if-at .at)
+  check-rule-if-reads = check-rule-if-entered t check-rule-if-at .reads-on (c .if5 .left) (check-rule-opens t (check-rule-if-read t check-rule-if-at) .opens) (check-rule-opens t (check-rule-if-read t check-rule-if-at) .reads-on)
 
 check-rule-check-block-requires-2 : (t : ℕ) → check-rule-lts.Need-check-block-requires-2 (r-calls t) (check-rule-at t) check-rule.Post
 check-rule-check-block-requires-2 t c κs =
-    let b = check-rule-if-read t c in
+    let i = c .before .before in
+    let e = check-rule-if-at t i in
+    let b = check-rule-if-read t e in
     let s = check-rule-start t b in (
-      omega (arith, s .pre .0, check-rule-if-onward t c .further-on, s .pre .1 .2),
-      (s .pre .1 .0, c .if5 .left, check-rule-if-onward t c .stood, s .pre .1 .3, s .pre .1 .4, opens-if (check-rule-file t b) (check-rule-counts t b) (check-rule-from t b) (check-rule-if-in t c) (s .args .ls) (check-rule-opens t b) (check-rule-if-reads t c)),
+      omega (arith, s .pre .0, check-rule-if-onward t i .further-on, s .pre .1 .2),
+      (s .pre .1 .0, check-rule-if-onward t i .stood, s .pre .1 .3, s .pre .1 .4, opens-if (check-rule-file t b) (check-rule-counts t b) (check-rule-from t b .at) (check-rule-if-in t e .at) (s .args .ls) (check-rule-opens t b) (check-rule-if-reads t i)),
     )
+
+-- what its first branch comes to
+module _ (t : ℕ) (c : check-rule-lts.After-check-block2 (r-calls t) (check-rule-at t) check-rule.Post) where
+  abbrev check-rule-first-in : check-rule-lts.Else5 (r-calls t) (check-rule-at t) check-rule.Post
+  check-rule-first-in = c .before .before .before
+
+  abbrev check-rule-first-end : Taken
+  check-rule-first-end = with-ledger (c .check-block2 .result) (c .check-block2 .last .1 .1 .1 .0)
 
 check-rule-returns-5 : (t : ℕ) → check-rule-lts.Need-returns-5 (r-calls t) (check-rule-at t) check-rule.Post
 check-rule-returns-5 t c =
-    let i = c .before .before .before in
-    let b = check-rule-if-read t i in
+    let v = c .before .before in
+    let i = check-rule-first-in t v in
+    let e = check-rule-if-at t i in
+    let b = check-rule-if-read t e in
     let s = check-rule-start t b in
-    let v = c .before .before .check-block2 in (
-      stops-inside (check-rule-file t b) (check-rule-counts t b) (s .args .ls) (check-rule-from t b) (v .result) _ (if-first (check-rule-file t b) (check-rule-counts t b) (s .args .ls) (check-rule-from t b) (check-rule-if-in t i) (s .pre .1 .2) (i .before .before .enter-if .ensures .as-defined) (v .result) (i .if5 .left) (v .ensures .0)) (c .if6 .taken),
+    let end = check-rule-first-end t v in (
+      stops-inside (check-rule-file t b) (check-rule-counts t b) (s .args .ls) (check-rule-from t b) end (end .ledger) _ (if-first (check-rule-file t b) (check-rule-counts t b) (s .args .ls) (check-rule-from t b) (check-rule-if-in t e) (s .pre .1 .2) (check-rule-if-entered t e .as-defined) end (i .if5 .left) (v .check-block2 .ensures .0)) (c .if6 .taken),
       (λ z. absurd (c .if6 .taken z)),
     )
 
 -- its first branch has been walked
 module _ (t : ℕ) (c : check-rule-lts.Else6 (r-calls t) (check-rule-at t) check-rule.Post) where
-  abbrev check-rule-first-in : check-rule-lts.Else5 (r-calls t) (check-rule-at t) check-rule.Post
-  check-rule-first-in = c .before .before .before
+  abbrev check-rule-first-of : check-rule-lts.After-check-block2 (r-calls t) (check-rule-at t) check-rule.Post
+  check-rule-first-of = c .before .before
 
-  abbrev check-rule-first-end : Taken
-  check-rule-first-end = c .before .before .check-block2 .result
+  abbrev check-rule-first-read : check-rule-lts.After-stream-next (r-calls t) (check-rule-at t) check-rule.Post
+  check-rule-first-read = check-rule-if-read t (check-rule-if-at t (check-rule-first-in t check-rule-first-of))
 
-  abbrev check-rule-first-walked : Further (check-rule-file t (check-rule-if-read t check-rule-first-in)) (check-rule-counts t (check-rule-if-read t check-rule-first-in)) (check-rule-if-in t check-rule-first-in) check-rule-first-end
-  check-rule-first-walked = c .before .before .check-block2 .ensures .1 (c .if6 .left) .0
+  abbrev check-rule-first-walked : Further (check-rule-file t check-rule-first-read) (check-rule-counts t check-rule-first-read) (check-rule-if-in t (check-rule-if-at t (check-rule-first-in t check-rule-first-of)) .at) (check-rule-first-end t check-rule-first-of .at) (check-rule-first-end t check-rule-first-of .ledger)
+  check-rule-first-walked = check-rule-first-of .check-block2 .ensures .1 (c .if6 .left) .0
 
-  check-rule-first-closes : AtRule (check-rule-file t (check-rule-if-read t check-rule-first-in)) (check-rule-counts t (check-rule-if-read t check-rule-first-in)) (check-rule-first-end .at) (check-rule-first-end .ledger) × Closing (rule-code (check-rule-file t (check-rule-if-read t check-rule-first-in)) (check-rule-counts t (check-rule-if-read t check-rule-first-in)) (check-rule-first-end .at))
-  check-rule-first-closes = check-rule-closes t (check-rule-if-read t check-rule-first-in) check-rule-first-end (check-rule-first-walked .stood) (c .before .before .check-block2 .ensures .1 (c .if6 .left) .1)
+  check-rule-first-closes : AtRule (check-rule-file t check-rule-first-read) (check-rule-counts t check-rule-first-read) (check-rule-first-end t check-rule-first-of .at) (check-rule-first-end t check-rule-first-of .ledger) × Closing (rule-code (check-rule-file t check-rule-first-read) (check-rule-counts t check-rule-first-read) (check-rule-first-end t check-rule-first-of .at))
+  check-rule-first-closes = check-rule-closes t check-rule-first-read (check-rule-first-end t check-rule-first-of) (check-rule-first-walked .stood) (check-rule-first-of .check-block2 .ensures .1 (c .if6 .left) .1)
 
 check-rule-turn-requires : (t : ℕ) → check-rule-lts.Need-turn-requires (r-calls t) (check-rule-at t) check-rule.Post
-check-rule-turn-requires t c κs =
-    let i = check-rule-first-in t c in
-    (check-rule-first-closes t c .0, check-rule-first-closes t c .1, bounded-wider (omega (arith, check-rule-if-onward t i .further-on, check-rule-first-walked t c .further-on)) (check-rule-start t (check-rule-if-read t i) .pre .1 .1 .bounded))
+check-rule-turn-requires t c κs = ((_, check-rule-first-closes t c .0), check-rule-first-closes t c .1)
+
+-- what turning it comes to: the ledger is the one at the if
+module _ (t : ℕ) (c : check-rule-lts.After-turn (r-calls t) (check-rule-at t) check-rule.Post) where
+  abbrev check-rule-turn-of : check-rule-lts.Else6 (r-calls t) (check-rule-at t) check-rule.Post
+  check-rule-turn-of = c .before
+
+  abbrev check-rule-turn-read : check-rule-lts.After-stream-next (r-calls t) (check-rule-at t) check-rule.Post
+  check-rule-turn-read = check-rule-first-read t check-rule-turn-of
+
+  abbrev check-rule-turn-end : Taken
+  check-rule-turn-end = check-rule-first-end t (check-rule-first-of t check-rule-turn-of)
+
+  abbrev check-rule-turned : Taken
+  check-rule-turned = with-ledger (c .turn .result) (check-rule-ledger t check-rule-turn-read)
+
+  check-rule-turns : Turned (check-rule-file t check-rule-turn-read) (check-rule-counts t check-rule-turn-read) (check-rule-turn-end .at) (check-rule-turn-end .ledger) (check-rule-ledger t check-rule-turn-read) check-rule-turned
+  check-rule-turns =
+      c .turn .ensures (check-rule-turn-end .ledger) (check-rule-ledger t check-rule-turn-read) (check-rule-first-closes t check-rule-turn-of .0)
+      (bounded-wider (check-rule-start t check-rule-turn-read .pre .1 .1 .bounded) (omega (arith, check-rule-if-onward t (check-rule-first-in t (check-rule-first-of t check-rule-turn-of)) .further-on, check-rule-first-walked t check-rule-turn-of .further-on)))
 
 check-rule-returns-6 : (t : ℕ) → check-rule-lts.Need-returns-6 (r-calls t) (check-rule-at t) check-rule.Post
 check-rule-returns-6 t c =
-    let w = c .before .before .before in
-    let i = check-rule-first-in t w in
-    let b = check-rule-if-read t i in
+    let o = c .before .before in
+    let w = check-rule-turn-of t o in
+    let v = check-rule-first-of t w in
+    let i = check-rule-first-in t v in
+    let e = check-rule-if-at t i in
+    let b = check-rule-if-read t e in
     let s = check-rule-start t b in
-    let o = c .before .before .turn in (
-      stops-inside (check-rule-file t b) (check-rule-counts t b) (s .args .ls) (check-rule-from t b) (o .result) _ (if-turned (check-rule-file t b) (check-rule-counts t b) (s .args .ls) (check-rule-from t b) (check-rule-if-in t i) (s .pre .1 .2) (i .before .before .enter-if .ensures .as-defined) (check-rule-first-end t w) (o .result) (i .if5 .left) (w .before .before .check-block2 .ensures .0) (w .if6 .left) (check-rule-first-closes t w .0 .there) (o .ensures .as-defined)) (c .if7 .taken),
+    let end = check-rule-first-end t v in (
+      stops-inside (check-rule-file t b) (check-rule-counts t b) (s .args .ls) (check-rule-from t b) (check-rule-turned t o) (end .ledger) _ (if-turned (check-rule-file t b) (check-rule-counts t b) (s .args .ls) (check-rule-from t b) (check-rule-if-in t e) (s .pre .1 .2) (check-rule-if-entered t e .as-defined) end (check-rule-turned t o) (i .if5 .left) (v .check-block2 .ensures .0) (w .if6 .left) (check-rule-first-closes t w .0 .there) (check-rule-turns t o .as-defined)) (c .if7 .taken),
       (λ z. absurd (c .if7 .taken z)),
     )
 
 -- it has been turned
 module _ (t : ℕ) (c : check-rule-lts.Else7 (r-calls t) (check-rule-at t) check-rule.Post) where
-  abbrev check-rule-turned-at : check-rule-lts.Else6 (r-calls t) (check-rule-at t) check-rule.Post
-  check-rule-turned-at = c .before .before .before
+  abbrev check-rule-turned-at : check-rule-lts.After-turn (r-calls t) (check-rule-at t) check-rule.Post
+  check-rule-turned-at = c .before .before
 
-  abbrev check-rule-turned : Taken
-  check-rule-turned = c .before .before .turn .result
-
-  abbrev check-rule-turned-onward : Onward (check-rule-counts t (check-rule-if-read t (check-rule-first-in t check-rule-turned-at))) (check-rule-first-end t check-rule-turned-at .at) check-rule-turned
-  check-rule-turned-onward = c .before .before .turn .ensures .onward (c .if7 .left)
+  abbrev check-rule-turned-onward : Onward (check-rule-counts t (check-rule-turn-read t check-rule-turned-at)) (check-rule-turn-end t check-rule-turned-at .at) (check-rule-turned t check-rule-turned-at)
+  check-rule-turned-onward = check-rule-turns t check-rule-turned-at .onward (c .if7 .left)
 
 check-rule-check-block-requires-3 : (t : ℕ) → check-rule-lts.Need-check-block-requires-3 (r-calls t) (check-rule-at t) check-rule.Post
 check-rule-check-block-requires-3 t c κs =
-    let w = check-rule-turned-at t c in
-    let i = check-rule-first-in t w in
-    let b = check-rule-if-read t i in
+    let k = c .before .before in
+    let o = check-rule-turned-at t k in
+    let w = check-rule-turn-of t o in
+    let i = check-rule-first-in t (check-rule-first-of t w) in
+    let b = check-rule-turn-read t o in
     let s = check-rule-start t b in
-    let o = check-rule-opens t b in
-    let reads = c .before .before .turn .ensures .reads-on (c .if7 .left) (o .opens) (check-rule-first-walked t w .reads-on (open-if ∷ o .opens) (check-rule-if-reads t i)) in (
-      omega (arith, s .pre .0, check-rule-if-onward t i .further-on, check-rule-first-walked t w .further-on, check-rule-turned-onward t c .further-on, s .pre .1 .2),
-      (s .pre .1 .0, c .if7 .left, check-rule-turned-onward t c .stood, s .pre .1 .3, s .pre .1 .4, opens-else (check-rule-file t b) (check-rule-counts t b) (check-rule-from t b) (check-rule-turned t c) (s .args .ls) o reads),
+    let opens = check-rule-opens t b in
+    let reads = check-rule-turns t o .reads-on (k .if7 .left) (opens .opens) (check-rule-first-walked t w .reads-on (open-if ∷ opens .opens) (check-rule-if-reads t i)) in (
+      omega (arith, s .pre .0, check-rule-if-onward t i .further-on, check-rule-first-walked t w .further-on, check-rule-turned-onward t k .further-on, s .pre .1 .2),
+      (s .pre .1 .0, check-rule-turned-onward t k .stood, s .pre .1 .3, s .pre .1 .4, opens-else (check-rule-file t b) (check-rule-counts t b) (check-rule-from t b .at) (check-rule-turned t o .at) (s .args .ls) opens reads),
     )
+
+-- what its second branch comes to
+module _ (t : ℕ) (c : check-rule-lts.After-check-block3 (r-calls t) (check-rule-at t) check-rule.Post) where
+  abbrev check-rule-second-in : check-rule-lts.Else7 (r-calls t) (check-rule-at t) check-rule.Post
+  check-rule-second-in = c .before .before .before
+
+  abbrev check-rule-second-end : Taken
+  check-rule-second-end = with-ledger (c .check-block3 .result) (c .check-block3 .last .1 .1 .1 .0)
 
 check-rule-returns-7 : (t : ℕ) → check-rule-lts.Need-returns-7 (r-calls t) (check-rule-at t) check-rule.Post
 check-rule-returns-7 t c =
-    let o = c .before .before .before in
-    let w = check-rule-turned-at t o in
-    let i = check-rule-first-in t w in
-    let b = check-rule-if-read t i in
+    let u = c .before .before in
+    let k = check-rule-second-in t u in
+    let o = check-rule-turned-at t k in
+    let w = check-rule-turn-of t o in
+    let v = check-rule-first-of t w in
+    let i = check-rule-first-in t v in
+    let e = check-rule-if-at t i in
+    let b = check-rule-if-read t e in
     let s = check-rule-start t b in
-    let u = c .before .before .check-block3 in (
-      stops-inside (check-rule-file t b) (check-rule-counts t b) (s .args .ls) (check-rule-from t b) (u .result) _ (if-second (check-rule-file t b) (check-rule-counts t b) (s .args .ls) (check-rule-from t b) (check-rule-if-in t i) (s .pre .1 .2) (i .before .before .enter-if .ensures .as-defined) (check-rule-first-end t w) (check-rule-turned t o) (i .if5 .left) (w .before .before .check-block2 .ensures .0) (w .if6 .left) (check-rule-first-closes t w .0 .there) (o .before .before .turn .ensures .as-defined) (u .result) (o .if7 .left) (u .ensures .0)) (c .if8 .taken),
+    let end = check-rule-second-end t u in (
+      stops-inside (check-rule-file t b) (check-rule-counts t b) (s .args .ls) (check-rule-from t b) end (end .ledger) _ (if-second (check-rule-file t b) (check-rule-counts t b) (s .args .ls) (check-rule-from t b) (check-rule-if-in t e) (s .pre .1 .2) (check-rule-if-entered t e .as-defined) (check-rule-first-end t v) (check-rule-turned t o) (i .if5 .left) (v .check-block2 .ensures .0) (w .if6 .left) (check-rule-first-closes t w .0 .there) (check-rule-turns t o .as-defined) end (k .if7 .left) (u .check-block3 .ensures .0)) (c .if8 .taken),
       (λ z. absurd (c .if8 .taken z)),
     )
 
 -- its second branch has been walked
 module _ (t : ℕ) (c : check-rule-lts.Else8 (r-calls t) (check-rule-at t) check-rule.Post) where
-  abbrev check-rule-second-in : check-rule-lts.Else7 (r-calls t) (check-rule-at t) check-rule.Post
-  check-rule-second-in = c .before .before .before
+  abbrev check-rule-second-of : check-rule-lts.After-check-block3 (r-calls t) (check-rule-at t) check-rule.Post
+  check-rule-second-of = c .before .before
+
+  abbrev check-rule-second-turned : check-rule-lts.After-turn (r-calls t) (check-rule-at t) check-rule.Post
+  check-rule-second-turned = check-rule-turned-at t (check-rule-second-in t check-rule-second-of)
 
   abbrev check-rule-second-read : check-rule-lts.After-stream-next (r-calls t) (check-rule-at t) check-rule.Post
-  check-rule-second-read = check-rule-if-read t (check-rule-first-in t (check-rule-turned-at t check-rule-second-in))
+  check-rule-second-read = check-rule-turn-read t check-rule-second-turned
 
-  abbrev check-rule-second-end : Taken
-  check-rule-second-end = c .before .before .check-block3 .result
+  abbrev check-rule-second-walked : Further (check-rule-file t check-rule-second-read) (check-rule-counts t check-rule-second-read) (check-rule-turned t check-rule-second-turned .at) (check-rule-second-end t check-rule-second-of .at) (check-rule-second-end t check-rule-second-of .ledger)
+  check-rule-second-walked = check-rule-second-of .check-block3 .ensures .1 (c .if8 .left) .0
 
-  abbrev check-rule-second-walked : Further (check-rule-file t check-rule-second-read) (check-rule-counts t check-rule-second-read) (check-rule-turned t check-rule-second-in) check-rule-second-end
-  check-rule-second-walked = c .before .before .check-block3 .ensures .1 (c .if8 .left) .0
-
-  check-rule-second-closes : AtRule (check-rule-file t check-rule-second-read) (check-rule-counts t check-rule-second-read) (check-rule-second-end .at) (check-rule-second-end .ledger) × Closing (rule-code (check-rule-file t check-rule-second-read) (check-rule-counts t check-rule-second-read) (check-rule-second-end .at))
-  check-rule-second-closes = check-rule-closes t check-rule-second-read check-rule-second-end (check-rule-second-walked .stood) (c .before .before .check-block3 .ensures .1 (c .if8 .left) .1)
+  check-rule-second-closes : AtRule (check-rule-file t check-rule-second-read) (check-rule-counts t check-rule-second-read) (check-rule-second-end t check-rule-second-of .at) (check-rule-second-end t check-rule-second-of .ledger) × Closing (rule-code (check-rule-file t check-rule-second-read) (check-rule-counts t check-rule-second-read) (check-rule-second-end t check-rule-second-of .at))
+  check-rule-second-closes = check-rule-closes t check-rule-second-read (check-rule-second-end t check-rule-second-of) (check-rule-second-walked .stood) (check-rule-second-of .check-block3 .ensures .1 (c .if8 .left) .1)
 
 check-rule-leave-if-requires : (t : ℕ) → check-rule-lts.Need-leave-if-requires (r-calls t) (check-rule-at t) check-rule.Post
 check-rule-leave-if-requires t c κs =
-    let o = check-rule-second-in t c in
-    (check-rule-second-closes t c .0, check-rule-second-closes t c .1, bounded-wider (omega (arith, check-rule-turned-onward t o .further-on, check-rule-second-walked t c .further-on)) (check-rule-first-walked t (check-rule-turned-at t o) .stood .bounded))
+    let x = c .before .before in
+    let k = check-rule-second-in t (check-rule-second-of t x) in
+    let w = check-rule-turn-of t (check-rule-second-turned t x) in
+    (check-rule-second-closes t x .0, check-rule-second-closes t x .1, bounded-wider (check-rule-first-walked t w .stood .bounded) (omega (arith, check-rule-turned-onward t k .further-on, check-rule-second-walked t x .further-on)))
 
 check-rule-returns-8 : (t : ℕ) → check-rule-lts.Need-returns-8 (r-calls t) (check-rule-at t) check-rule.Post
 check-rule-returns-8 t c =
-    let x = c .before in
-    let o = check-rule-second-in t x in
-    let w = check-rule-turned-at t o in
-    let i = check-rule-first-in t w in
-    let b = check-rule-if-read t i in
+    let x = c .before .before .before in
+    let u = check-rule-second-of t x in
+    let k = check-rule-second-in t u in
+    let o = check-rule-turned-at t k in
+    let w = check-rule-turn-of t o in
+    let v = check-rule-first-of t w in
+    let i = check-rule-first-in t v in
+    let e = check-rule-if-at t i in
+    let b = check-rule-if-read t e in
     let s = check-rule-start t b in
-    let r = c .leave-if in (
-      if-left (check-rule-file t b) (check-rule-counts t b) (s .args .ls) (check-rule-from t b) (check-rule-if-in t i) (s .pre .1 .2) (i .before .before .enter-if .ensures .as-defined) (check-rule-first-end t w) (check-rule-turned t o) (i .if5 .left) (w .before .before .check-block2 .ensures .0) (w .if6 .left) (check-rule-first-closes t w .0 .there) (o .before .before .turn .ensures .as-defined) (check-rule-second-end t x) (r .result) (o .if7 .left) (x .before .before .check-block3 .ensures .0) (x .if8 .left) (check-rule-second-closes t x .0 .there) (r .ensures .as-defined),
-      (λ z. further-if (check-rule-file t b) (check-rule-counts t b) (check-rule-from t b) (check-rule-if-in t i) (check-rule-first-end t w) (check-rule-turned t o) (check-rule-second-end t x) (r .result) (check-rule-if-onward t i) (i .before .before .enter-if .ensures .reads-on (i .if5 .left)) (check-rule-first-walked t w) (check-rule-turned-onward t o) (o .before .before .turn .ensures .reads-on (o .if7 .left)) (check-rule-second-walked t x) (r .ensures .onward z) (r .ensures .reads-on z)),
+    let r = c .leave-if in
+    let left = with-ledger (r .result) (r .last .1 .1 .1 .0) in (
+      if-left (check-rule-file t b) (check-rule-counts t b) (s .args .ls) (check-rule-from t b) (check-rule-if-in t e) (s .pre .1 .2) (check-rule-if-entered t e .as-defined) (check-rule-first-end t v) (check-rule-turned t o) (i .if5 .left) (v .check-block2 .ensures .0) (w .if6 .left) (check-rule-first-closes t w .0 .there) (check-rule-turns t o .as-defined) (check-rule-second-end t u) left (k .if7 .left) (u .check-block3 .ensures .0) (x .if8 .left) (check-rule-second-closes t x .0 .there) (r .ensures .as-defined),
+      (λ z. further-if (check-rule-file t b) (check-rule-counts t b) (check-rule-from t b .at) (check-rule-if-in t e) (check-rule-first-end t v) (check-rule-turned t o) (check-rule-second-end t u) left (check-rule-if-onward t i) (check-rule-if-entered t e .reads-on (i .if5 .left)) (check-rule-first-walked t w) (check-rule-turned-onward t k) (check-rule-turns t o .reads-on (k .if7 .left)) (check-rule-second-walked t x) (r .ensures .onward z) (r .ensures .reads-on z)),
     )
 
 -- ---- any other rule
 
-check-rule-plain-requires : (t : ℕ) → check-rule-lts.Need-plain-requires (r-calls t) (check-rule-at t) check-rule.Post
-check-rule-plain-requires t c κs =
-    let b = c .before .before in
+check-rule-refuses-requires : (t : ℕ) → check-rule-lts.Need-refuses-requires (r-calls t) (check-rule-at t) check-rule.Post
+check-rule-refuses-requires t c κs =
+    let b = c .before .before .before in
     let s = check-rule-start t b in
     let p = s .pre .1 in
-    (check-rule-there t b, p .3, p .6, plain-code (s .args .code) (c .before .if1 .left) (c .if4 .left) (p .7), check-rule-next t b)
+    (p .0, p .3, plain-code (s .args .code) (c .before .before .if1 .left) (c .before .if4 .left) (p .7), (s .args .at, check-rule-next t b), small-ledger (check-rule-file t b) (check-rule-counts t b) (s .args .at) (check-rule-ledger t b) (p .0) (p .1))
+
+-- whether it is refused has been answered
+module _ (t : ℕ) (c : check-rule-lts.After-refuses (r-calls t) (check-rule-at t) check-rule.Post) where
+  abbrev check-rule-plain-read : check-rule-lts.After-stream-next (r-calls t) (check-rule-at t) check-rule.Post
+  check-rule-plain-read = c .before .before .before .before
+
+  abbrev check-rule-plain-rule : S.Rule
+  check-rule-plain-rule = S.rule (check-rule-start t check-rule-plain-read .args .code)
+
+  abbrev check-rule-plain-near : (check-rule-from t check-rule-plain-read .at .rule ≤ 4096) × (check-rule-from t check-rule-plain-read .at .array ≤ 4096) × (check-rule-from t check-rule-plain-read .at .stream ≤ 4096)
+  check-rule-plain-near = near (check-rule-file t check-rule-plain-read) (check-rule-counts t check-rule-plain-read) (check-rule-from t check-rule-plain-read .at) (check-rule-ledger t check-rule-plain-read) (check-rule-start t check-rule-plain-read .pre .1 .0) (check-rule-start t check-rule-plain-read .pre .1 .1)
+
+  -- taken so, it has been walked
+  check-rule-plain-walked : (r r′ : Taken) → r ≡ r′ → TakenPlain (check-rule-file t check-rule-plain-read) (check-rule-counts t check-rule-plain-read) (check-rule-from t check-rule-plain-read .at) (check-rule-ledger t check-rule-plain-read) (loops (check-rule-start t check-rule-plain-read .args .ls)) r′
+      → RuleWalked (check-rule-file t check-rule-plain-read) (check-rule-counts t check-rule-plain-read) (loops (check-rule-start t check-rule-plain-read .args .ls)) (check-rule-from t check-rule-plain-read) r
+  check-rule-plain-walked r r′ e T =
+      subst (RuleWalked (check-rule-file t check-rule-plain-read) (check-rule-counts t check-rule-plain-read) (loops (check-rule-start t check-rule-plain-read .args .ls)) (check-rule-from t check-rule-plain-read)) (sym e) (
+        (λ os k. goes-rule (check-rule-file t check-rule-plain-read) (check-rule-counts t check-rule-plain-read) os os (check-rule-from t check-rule-plain-read) r′ (check-rule-start t check-rule-plain-read .pre .1 .2) (T .as-defined os k)),
+        (λ z. further-rule (check-rule-file t check-rule-plain-read) (check-rule-counts t check-rule-plain-read) (check-rule-from t check-rule-plain-read .at) r′ (T .onward z) (T .reads-on z)),
+      )
+
+  -- with this ledger after its step
+  check-rule-plain-steps : (m : List ℤ) → c .refuses .result ≡ 0 → Steps (check-rule-file t check-rule-plain-read) (check-rule-counts t check-rule-plain-read) check-rule-plain-rule (rec (check-rule-plain-read .before .array-next .result)) (rec (check-rule-plain-read .stream-next .result)) (check-rule-ledger t check-rule-plain-read) m
+      → (r : Taken) → r ≡ past (check-rule-from t check-rule-plain-read .at) (arrays-taken check-rule-plain-rule) m
+      → RuleWalked (check-rule-file t check-rule-plain-read) (check-rule-counts t check-rule-plain-read) (loops (check-rule-start t check-rule-plain-read .args .ls)) (check-rule-from t check-rule-plain-read) r
+  check-rule-plain-steps m z S r e =
+      check-rule-plain-walked r _ e (plain-taken (c .refuses .ensures) (check-rule-from t check-rule-plain-read .at) (check-rule-there t check-rule-plain-read) (check-rule-start t check-rule-plain-read .pre .1 .6) (check-rule-next t check-rule-plain-read) m z S)
+
+check-rule-stays-requires : (t : ℕ) → check-rule-lts.Need-stays-requires (r-calls t) (check-rule-at t) check-rule.Post
+check-rule-stays-requires t c κs = search needs
 
 check-rule-returns-9 : (t : ℕ) → check-rule-lts.Need-returns-9 (r-calls t) (check-rule-at t) check-rule.Post
 check-rule-returns-9 t c =
-    let b = c .before .before .before in
-    let r = c .plain in (
-      (λ os k. goes-rule (check-rule-file t b) (check-rule-counts t b) os os (check-rule-from t b) (r .result) (check-rule-start t b .pre .1 .2) (r .ensures .as-defined os k)),
-      (λ z. further-rule (check-rule-file t b) (check-rule-counts t b) (check-rule-from t b) (r .result) (r .ensures .onward z) (r .ensures .reads-on z)),
-    )
+    let p = c .before .before in
+    let b = check-rule-plain-read t p in
+    let l = check-rule-ledger t b in
+    check-rule-plain-walked t p (with-ledger (c .stays .result) l) _ (ap (λ r. with-ledger r l) (c .stays .ensures))
+    (plain-refused (p .refuses .ensures) (check-rule-from t b .at) (check-rule-there t b) (check-rule-start t b .pre .1 .6) (check-rule-next t b) (c .before .if9 .taken))
+
+check-rule-steps-requires : (t : ℕ) → check-rule-lts.Need-steps-requires (r-calls t) (check-rule-at t) check-rule.Post
+check-rule-steps-requires t c κs = search needs
+
+check-rule-arrays-taken-requires : (t : ℕ) → check-rule-lts.Need-arrays-taken-requires (r-calls t) (check-rule-at t) check-rule.Post
+check-rule-arrays-taken-requires t c κs = search needs
+
+check-rule-took-requires : (t : ℕ) → check-rule-lts.Need-took-requires (r-calls t) (check-rule-at t) check-rule.Post
+check-rule-took-requires t c κs =
+    let p = c .before .before .before .before in
+    let n = check-rule-plain-near t p in
+    (n .0, n .1, n .2, omega (arith, c .arrays-taken .ensures, one-at-most (check-rule-plain-rule t p)))
+
+check-rule-returns-10 : (t : ℕ) → check-rule-lts.Need-returns-10 (r-calls t) (check-rule-at t) check-rule.Post
+check-rule-returns-10 t c =
+    let d = c .before .before in
+    let p = d .before .before .before in
+    let b = check-rule-plain-read t p in
+    let l = check-rule-ledger t b in
+    let same = unchanged (check-rule-file t b) (check-rule-counts t b) (check-rule-plain-rule t p) _ _ l (sym (d .before .steps .ensures) ∙ not-true _ (d .if10 .taken)) in
+    check-rule-plain-steps t p l (d .before .before .if9 .left) same (with-ledger (c .took .result) l)
+    (ap (λ r. with-ledger r l) (c .took .ensures) ∙ ap (λ n. past (check-rule-from t b .at) n l) (c .before .arrays-taken .ensures))
+
+check-rule-step-requires : (t : ℕ) → check-rule-lts.Need-step-requires (r-calls t) (check-rule-at t) check-rule.Post
+check-rule-step-requires t c κs =
+    let d = c .before .before .before in
+    let p = d .before in
+    let b = check-rule-plain-read t p in
+    let s = check-rule-start t b in
+    (s .pre .1 .0, p .refuses .ensures .named (d .if9 .left), small-ledger (check-rule-file t b) (check-rule-counts t b) (s .args .at) (check-rule-ledger t b) (s .pre .1 .0) (s .pre .1 .1))
+
+check-rule-arrays-taken-requires-2 : (t : ℕ) → check-rule-lts.Need-arrays-taken-requires-2 (r-calls t) (check-rule-at t) check-rule.Post
+check-rule-arrays-taken-requires-2 t c κs = search needs
+
+check-rule-took-requires-2 : (t : ℕ) → check-rule-lts.Need-took-requires-2 (r-calls t) (check-rule-at t) check-rule.Post
+check-rule-took-requires-2 t c κs =
+    let p = c .before .before .before .before .before .before in
+    let n = check-rule-plain-near t p in
+    (n .0, n .1, n .2, omega (arith, c .arrays-taken2 .ensures, one-at-most (check-rule-plain-rule t p)))
+
+check-rule-returns-11 : (t : ℕ) → check-rule-lts.Need-returns-11 (r-calls t) (check-rule-at t) check-rule.Post
+check-rule-returns-11 t c =
+    let k = c .before .before in
+    let d = k .before .before .before .before in
+    let p = d .before in
+    let b = check-rule-plain-read t p in
+    let m = k .step .last .1 .1 .1 .1 .1 .0 in
+    check-rule-plain-steps t p m (d .if9 .left) (k .step .ensures) (with-ledger (c .took2 .result) m)
+    (ap (λ r. with-ledger r m) (c .took2 .ensures) ∙ ap (λ n. past (check-rule-from t b .at) n m) (c .before .arrays-taken2 .ensures))
 
 pub +check-block+check-rule-spec : {M : Type 1} → both M
 +check-block+check-rule-spec = close μ-check-block μ-check-rule (λ t. check-block-lts.spec (b-calls t)
@@ -545,5 +742,14 @@ pub +check-block+check-rule-spec : {M : Type 1} → both M
     (check-rule-returns-7 t)
     (check-rule-leave-if-requires t)
     (check-rule-returns-8 t)
-    (check-rule-plain-requires t)
+    (check-rule-refuses-requires t)
+    (check-rule-stays-requires t)
     (check-rule-returns-9 t)
+    (check-rule-steps-requires t)
+    (check-rule-arrays-taken-requires t)
+    (check-rule-took-requires t)
+    (check-rule-returns-10 t)
+    (check-rule-step-requires t)
+    (check-rule-arrays-taken-requires-2 t)
+    (check-rule-took-requires-2 t)
+    (check-rule-returns-11 t)
