@@ -6,8 +6,8 @@
  * Areas. A memory is a row of signed 32-bit numbers: four bytes a number, low byte first, at any address. Each area is
  * given as a pointer and its length in bytes. The area that is written must not overlap the others, and nothing else may
  * write any of them during the call. Where a length is 0 the pointer may be NULL: nothing is read or written through it.
- * No call keeps anything, so calls may be made at the same time on written areas of their own. 256 KB of stack are enough
- * for every call (the check of deeply nested blocks takes half of it, the others less than 8 KB).
+ * No call keeps anything, so calls may be made at the same time on written areas of their own. 48 KB of stack are enough
+ * for every call (the check of eight blocks inside each other takes 32 KB, every other call less than 8 KB).
  *
  * Sizes. A run, laying out or putting back is refused (21) where a memory has any other length than the one named at the
  * call. "Lengths" and "counts" there are those of the file's array records, added up over its input arrays or over its

@@ -1,6 +1,6 @@
 // How fast the proved code is beside the second implementation: both are called in this one program, on the same bytes, in turns.
-// Each call reads the file, and a run clears its output, on both sides. With words SIDE CASE N it makes N calls of one side and prints nothing,
-// so that their instructions can be counted.
+// Each call reads the file, and a run clears its output, on both sides. With the word 'cases' it prints the cases' names; with words SIDE CASE N it
+// makes N calls of one side and prints nothing, so that their instructions can be counted.
 #![allow(dead_code)]
 
 #[path = "../second/src/answer.rs"]
@@ -117,6 +117,115 @@ fn longest() -> Vec<u8> {
     bytes_of(1, 16, &[&arrays, &array, &stream, &derivation])
 }
 
+// Both programs and the derivation, a rule at a time.
+#[derive(Default)]
+struct Kernel {
+    array: Vec<Rec>,
+    stream: Vec<Rec>,
+    derivation: Vec<Rec>,
+}
+
+impl Kernel {
+    fn rule(&mut self, rule: i32, array: Rec, stream: Rec) {
+        self.array.push(array);
+        self.stream.push(stream);
+        self.derivation.push([rule, 0, 0, 0, 0, 0, 0, 0]);
+    }
+
+    fn same(&mut self, statement: Rec) {
+        self.rule(1, statement, statement);
+    }
+
+    // register p := q operator k
+    fn work(&mut self, p: i32, q: i32, k: i32, operator: i32) {
+        self.same([3, p, q, k, operator, 0, 0, 0]);
+    }
+
+    // a for of so many passes, with the hold rows of its two streams
+    fn for_passes(&mut self, passes: i32, rows: [Rec; 2]) {
+        let statement = [8, 0, passes, 1, 0, 0, 0, 0];
+        self.rule(7, statement, statement);
+        self.derivation.extend(rows);
+    }
+
+    fn if_set(&mut self, register: i32) {
+        let statement = [9, register, 0, 0, 0, 0, 0, 0];
+        self.rule(8, statement, statement);
+    }
+
+    fn or_else(&mut self) {
+        let statement = [10, 0, 0, 0, 0, 0, 0, 0];
+        self.rule(9, statement, statement);
+    }
+
+    fn end(&mut self) {
+        let statement = [11, 0, 0, 0, 0, 0, 0, 0];
+        self.rule(10, statement, statement);
+    }
+}
+
+// 256 statements in each program: in two loops of 64 passes a load, then what `body` makes of it, then a store.
+fn longest_programs(body: impl Fn(&mut Kernel)) -> Vec<u8> {
+    let arrays = [[1, 4096, 0, 4096, 1, 0, 0, 0], [2, 4096, 0, 4096, 1, 0, 0, 0]];
+    let mut m = Kernel::default();
+    for (register, value) in (1..).zip([2, 3, 5, 7, 11, 13, 17]) {
+        m.same([1, register, 0, value, 0, 0, 0, 0]);
+    }
+    m.for_passes(64, [[11, 0, 0, 0, 64, 0, 0, 0], [11, 1, 0, 0, 64, 0, 0, 0]]);
+    m.for_passes(64, [[11, 0, 0, 0, 64, 1, 0, 0], [11, 1, 0, 0, 64, 1, 0, 0]]);
+    m.rule(2, [4, 0, 0, 0, 64, 1, 0, 0], [6, 0, 0, 0, 0, 0, 0, 0]);
+    // register 7: the item modulo 2
+    m.work(7, 0, 1, 4);
+    m.work(7, 7, 1, 3);
+    m.work(7, 0, 7, 2);
+    body(&mut m);
+    while m.array.len() < 253 {
+        m.work(6, 6, 2, 1);
+    }
+    m.rule(6, [5, 6, 1, 0, 64, 1, 0, 0], [7, 6, 1, 0, 0, 0, 0, 0]);
+    m.end();
+    m.end();
+    assert_eq!((m.array.len(), m.stream.len()), (256, 256));
+    bytes_of(8, 0, &[&arrays, &m.array, &m.stream, &m.derivation])
+}
+
+// Ifs of five statements, and after one in four of them a loop of four.
+fn small_blocks() -> Vec<u8> {
+    longest_programs(|m| {
+        let mut i = 0;
+        while m.array.len() + 12 < 252 {
+            m.if_set(7);
+            m.work(2 + i % 4, 3 + i % 3, 0, 1);
+            m.or_else();
+            m.work(2 + i % 4, 4, 0, 2);
+            m.end();
+            if i % 4 == 1 {
+                m.for_passes(2, [[11, 0, 0, 1, 64, 1, 0, 0], [11, 1, 0, 0, 64, 1, 0, 0]]);
+                m.same([1, 5, 0, i, 1, 1, 3, 0]);
+                m.work(6, 6, 5, 1);
+                m.end();
+            }
+            i += 1;
+        }
+    })
+}
+
+// One if with 117 statements in each branch.
+fn one_if() -> Vec<u8> {
+    let branch = |m: &mut Kernel| {
+        for i in 0..117 {
+            m.work(2 + i % 4, 3 + i % 3, 0, 1 + i % 3);
+        }
+    };
+    longest_programs(|m| {
+        m.if_set(7);
+        branch(m);
+        m.or_else();
+        branch(m);
+        m.end();
+    })
+}
+
 // ---- measuring
 
 // Seconds of one call, the least of several rounds in which the two sides take turns.
@@ -151,7 +260,7 @@ fn seconds(mut f: impl FnMut()) -> f64 {
 }
 
 fn line(what: &str, unit: &str, amount: f64, (ours, theirs): (f64, f64)) {
-    println!("{what:<34} {:>12.0} {:>12.0} {unit:<14} {:>5.2}", amount / ours, amount / theirs, theirs / ours);
+    println!("{what:<42} {:>12.0} {:>12.0} {unit:<14} {:>5.2}", amount / ours, amount / theirs, theirs / ours);
 }
 
 // ---- the cases
@@ -165,7 +274,7 @@ struct Case {
     output: usize,
 }
 
-fn cases() -> [Case; 4] {
+fn cases() -> [Case; 6] {
     let statements = |before: f64, body: f64| before + 1.0 + 4095.0 * (body + 1.0);
     let case = |what, unit, amount, call, file, output| Case { what, unit, amount, call, file, output };
     [
@@ -187,14 +296,20 @@ fn cases() -> [Case; 4] {
         ),
         case("check, smoother", "files/s", 1.0, Call::Check, smoother(), 0),
         case("check, 1,022 derivation records", "files/s", 1.0, Call::Check, longest(), 0),
+        case("check, 256 statements in small blocks", "files/s", 1.0, Call::Check, small_blocks(), 0),
+        case("check, 256 statements in one if", "files/s", 1.0, Call::Check, one_if(), 0),
     ]
 }
 
 fn main() {
     let input: Vec<u8> = (0..4096).flat_map(|n: i32| (n * 7919 - 50_000).to_le_bytes()).collect();
     let words: Vec<String> = std::env::args().skip(1).collect();
+    if words == ["cases"] {
+        cases().iter().for_each(|case| println!("{}", case.what));
+        return;
+    }
     if let [side, case, calls] = &words[..] {
-        let case = &cases()[case.parse::<usize>().expect("a case from 0 to 3")];
+        let case = &cases()[case.parse::<usize>().expect("a case from 0 to 5")];
         let mut output = vec![0xa5; case.output];
         for _ in 0..calls.parse::<u32>().expect("how many calls") {
             std::hint::black_box(match &side[..] {
@@ -204,7 +319,7 @@ fn main() {
         }
         return;
     }
-    println!("{:<34} {:>12} {:>12} {:<14} {:>5}", "", "proved", "second", "", "ratio");
+    println!("{:<42} {:>12} {:>12} {:<14} {:>5}", "", "proved", "second", "", "ratio");
     for case in cases() {
         line(case.what, case.unit, case.amount, times(case.call, &case.file, &input, case.output));
     }

@@ -5,4 +5,4 @@ pub mod Taking
 pub mod Going
 pub mod Limit
 pub mod Entering
-pub mod Plain
+pub mod Steps

@@ -43,7 +43,7 @@ pub fn stays(at: Place, number: u8) -> Reached
 }
 
 // Past one rule, so many statements of the array program and one of the stream program.
-pub fn took(at: Place, arrays: usize) -> Reached
+fn took(at: Place, arrays: usize) -> Reached
     requires { ⌜ (at .rule ≤ 4096) × (at .array ≤ 4096) × (at .stream ≤ 4096) × (arrays ≤ 1) ⌝ }
     ensures { λ r. ⌜ r ≡ record { number = 0; at = View.further at arrays } ⌝ }
 {
@@ -75,7 +75,7 @@ pub fn array_next(file: &[u8], c: Counts, at: Place) -> Rec
     parts::record_in(file, parts::array_part(c), at.array)
 }
 
-pub fn stream_next(file: &[u8], c: Counts, at: Place) -> Rec
+fn stream_next(file: &[u8], c: Counts, at: Place) -> Rec
     requires { ⌜ ReadAs (now file) c ⌝ }
     ensures { λ r. ⌜ rec r ≡ stream-there (now (file .entry)) c at ⌝ }
 {
@@ -97,15 +97,7 @@ fn asked(file: &[u8], c: Counts, l: &Entries, around: Loops, code: u32, a: Rec, 
 }
 
 // What refuses any rule but for, if, else and end: 10 for a code that is no rule's, and 0 for nothing.
-pub fn refuses(
-    file: &[u8],
-    c: Counts,
-    l: &Entries,
-    around: Loops,
-    code: u32,
-    a: Rec,
-    s: Rec,
-) -> u8
+fn refuses(file: &[u8], c: Counts, l: &Entries, around: Loops, code: u32, a: Rec, s: Rec) -> u8
     requires { ⌜ ReadAs (now file) c × Turning around × Plain code × View.NextSomewhere (now file) c a s × ((m : ℕ) × Bounded m (now l) × (m ≤ 4096)) ⌝ }
     ensures { λ r. ⌜ View.Refuses (now (file .entry)) c (now (l .entry)) (loops around) code a s r ⌝ }
 {
@@ -115,21 +107,40 @@ pub fn refuses(
     asked(file, c, l, around, code, a, s)
 }
 
-// ---- a for
-
-// The statements and rows fit (10), and the rows are true at first (14); the ledger that they state is the ledger inside.
-pub fn enter_for(
+// Any rule but for, if, else and end; a code that is no rule's is refused with 10.
+pub fn plain(
     file: &[u8],
     c: Counts,
     at: Place,
     l: &mut Entries,
     around: Loops,
-    a: Rec,
-    s: Rec,
+    code: u32,
 ) -> Reached
-    requires { ⌜ AtRule (now file) c at (now l) × (around .count ≤ 4) × (rule-code (now file) c at ≡ 7) × Next (now file) c at a s ⌝ }
+    requires { ⌜ AtRule (now file) c at (now l) × Turning around × (code ≡ rule-code (now file) c at) × Plain code ⌝ }
+    ensures { λ r. ⌜ View.TakenPlain (now (file .entry)) c at (now (l .entry)) (loops around) (with-ledger r (now (l .exit))) ⌝ }
+{
+    let a = array_next(file, c, at);
+    let s = stream_next(file, c, at);
+    let number = refuses(file, c, l, around, code, a, s);
+    if number != 0 {
+        return stays(at, number);
+    }
+    if !check_rules::steps(code) {
+        return took(at, check_rules::arrays_taken(code));
+    }
+    check_rules::step(file, c, code, a, s, l);
+    took(at, check_rules::arrays_taken(code))
+}
+
+// ---- a for
+
+// The statements and rows fit (10), and the rows are true at first (14); the ledger that they state is the ledger inside.
+pub fn enter_for(file: &[u8], c: Counts, at: Place, l: &mut Entries, around: Loops) -> Reached
+    requires { ⌜ AtRule (now file) c at (now l) × (around .count ≤ 4) × (rule-code (now file) c at ≡ 7) ⌝ }
     ensures { λ r. ⌜ View.EnteredFor (now (file .entry)) c at (now (l .entry)) (loops around) (with-ledger r (now (l .exit))) ⌝ }
 {
+    let a = array_next(file, c, at);
+    let s = stream_next(file, c, at);
     if !check_rules::for_fits(file, c, at.rule, around.count, a, s) {
         return stays(at, kernel::DOES_NOT_FIT);
     }
@@ -193,10 +204,12 @@ pub fn leave_for(
 
 // ---- an if
 
-pub fn enter_if(file: &[u8], c: Counts, at: Place, a: Rec, s: Rec) -> Reached
-    requires { ⌜ View.RuleThere (now file) c at × (rule-code (now file) c at ≡ 8) × Next (now file) c at a s ⌝ }
+pub fn enter_if(file: &[u8], c: Counts, at: Place) -> Reached
+    requires { ⌜ View.RuleThere (now file) c at × (rule-code (now file) c at ≡ 8) ⌝ }
     ensures { λ r. ⌜ ((l : List ℤ) → AtRule (now (file .entry)) c at l → View.EnteredIf (now (file .entry)) c at l (with-ledger r l)) ⌝ }
 {
+    let a = array_next(file, c, at);
+    let s = stream_next(file, c, at);
     if !check_rules::fits(kernel::codes::IF_RULE, c.r, a, s) {
         return stays(at, kernel::DOES_NOT_FIT);
     }

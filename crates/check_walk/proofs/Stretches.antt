@@ -1,14 +1,14 @@
 -- Stretches of the walk inside a for or an if, for every row of open blocks with the same loops around; and what has been passed over.
 use Prim.Native.Nat.{ℕ, _+_, _≤_, _<_}
 use mathlib.Core.Path.{_≡_, refl, sym, ap, subst, _∙_}
-use mathlib.Core.Bool.{true, false}
+use mathlib.Core.Bool.{true, false, false≢true}
 use mathlib.Core.Logic.{inl, inr}
 use mathlib.Core.List.{List, [], _∷_, _++_}
 use lib.IntN.{ℤ}
 use native.Mathlib.Omega.{arith}
 use native.Mathlib.Decide.{ℕ-discrete, decLt}
 use Rattle.numbers.specs.Words.{between}
-use Rattle.numbers.proofs.Tests.{between-range}
+use Rattle.numbers.proofs.Tests.{between-range, range-between}
 use Rattle.forms.specs.declared.Loop.{Loop}
 use Rattle.forms.specs.declared.Loops.{Loops}
 use Rattle.forms.specs.Code.{loop, loops}
@@ -48,6 +48,19 @@ plain-code code x y z = by (ℕ-discrete code 9) (ℕ-discrete code 10)
     by (yes u) d = absurd (z (inl u))
     by (no u) (yes v) = absurd (z (inr v))
     by (no u) (no v) = side u v (decLt code 7)
+
+-- neither opens nor closes a block, or one of both
+pub between-blocks : (code : ℕ) → between 7 10 code ≡ false → Plain code
+between-blocks code e = by (decLt code 7) (decLt 10 code)
+  where
+    by : Dec (code < 7) → Dec (10 < code) → Plain code
+    by (yes l) d = inl l
+    by (no l) (yes h) = inr h
+    by (no l) (no h) = absurd (false≢true (sym e ∙ range-between 7 10 code (omega arith) (omega arith)))
+
+pub not-plain : (code : ℕ) → between 7 10 code ≡ true → Plain code → ⊥
+not-plain code e (inl l) = omega (arith, l, between-range 7 10 code e .0)
+not-plain code e (inr h) = omega (arith, h, between-range 7 10 code e .1)
 
 -- ---- stretches
 

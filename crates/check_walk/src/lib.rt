@@ -10,7 +10,7 @@ ghost use Prim.Native.Nat.{ℕ, _≤_, _<_};
 ghost use lib.IntN.{ℤ};
 ghost use Rattle.forms.specs.Code.{loops, Turning};
 ghost use Rattle.parts.specs.Parts.{ReadAs};
-ghost use Rattle.check_take.specs.View.{standing, with-ledger, Stood, rule-code, Closing};
+ghost use Rattle.check_take.specs.View.{standing, with-ledger, Stood, rule-code, Closing, Plain};
 ghost use Rattle.check_walk.specs.View.{Opens, Stops, BlockWalked, RuleDue, RuleWalked};
 
 // ---- where a block stops
@@ -44,6 +44,26 @@ fn closing(at: Place, inside: bool) -> Reached
 
 // ---- the walk, with the lent ledger
 
+// Takes plain rules one after another, up to one that opens or closes a block.
+fn check_plain(file: &[u8], c: Counts, from: Place, l: &mut Entries, ls: Loops) -> Reached
+    requires { ⌜ ReadAs (now file) c × Stood c from (now l) × (from .rule < c .d) × Turning ls × Plain (rule-code (now file) c from) ⌝ }
+    ensures { λ r. ⌜ RuleWalked (now (file .entry)) c (loops ls) (standing from (now (l .entry))) (with-ledger r (now (l .exit))) ⌝ }
+{
+    let mut at = from;
+    while at.rule < c.d {
+        let code = check_take::code_next(file, c, at);
+        if numbers::between(kernel::codes::FOR_RULE, kernel::codes::END_RULE, code) {
+            return check_take::stays(at, 0);
+        }
+        let r = check_take::plain(file, c, at, l, ls, code);
+        if r.number != 0 {
+            return r;
+        }
+        at = r.at;
+    }
+    check_take::stays(at, 0)
+}
+
 // Takes the rules of a block one after another, up to its else or end; outside all blocks up to the end of the derivation.
 pub fn check_block(
     file: &[u8],
@@ -71,20 +91,19 @@ pub fn check_block(
     over(c, at, inside)
 }
 
-// Takes a rule, a for or an if with all inside it.
+// Takes a rule: a for or an if with all inside it, a plain one with those after it.
 fn check_rule(file: &[u8], c: Counts, at: Place, l: &mut Entries, ls: Loops, code: u32) -> Reached
     requires { ⌜ RuleDue (now file) c (standing at (now l)) ls code ⌝ }
     ensures { λ r. ⌜ RuleWalked (now (file .entry)) c (loops ls) (standing at (now (l .entry))) (with-ledger r (now (l .exit))) ⌝ }
 {
-    let a = check_take::array_next(file, c, at);
-    let s = check_take::stream_next(file, c, at);
     if code == kernel::codes::FOR_RULE {
-        let e = check_take::enter_for(file, c, at, l, ls, a, s);
+        let e = check_take::enter_for(file, c, at, l, ls);
         if e.number != 0 {
             return e;
         }
+        // what the rows state, kept for the end of the body
         let rows = *l;
-        let own = parts::loop_of(a);
+        let own = parts::loop_of(check_take::array_next(file, c, at));
         let inner = ls.deeper(own);
         let v = check_block(file, c, e.at, l, inner, true);
         if v.number != 0 {
@@ -93,7 +112,7 @@ fn check_rule(file: &[u8], c: Counts, at: Place, l: &mut Entries, ls: Loops, cod
         return check_take::leave_for(file, c, v.at, l, &rows, own, inner);
     }
     if code == kernel::codes::IF_RULE {
-        let e = check_take::enter_if(file, c, at, a, s);
+        let e = check_take::enter_if(file, c, at);
         if e.number != 0 {
             return e;
         }
@@ -106,6 +125,7 @@ fn check_rule(file: &[u8], c: Counts, at: Place, l: &mut Entries, ls: Loops, cod
         if o.number != 0 {
             return o;
         }
+        // the else starts again from the ledger at the if
         let first = *l;
         *l = start;
         let u = check_block(file, c, o.at, l, ls, true);
@@ -114,13 +134,5 @@ fn check_rule(file: &[u8], c: Counts, at: Place, l: &mut Entries, ls: Loops, cod
         }
         return check_take::leave_if(file, c, u.at, l, &first, ls);
     }
-    let number = check_take::refuses(file, c, l, ls, code, a, s);
-    if number != 0 {
-        return check_take::stays(at, number);
-    }
-    if !check_rules::steps(code) {
-        return check_take::took(at, check_rules::arrays_taken(code));
-    }
-    check_rules::step(file, c, code, a, s, l);
-    check_take::took(at, check_rules::arrays_taken(code))
+    check_plain(file, c, at, l, ls)
 }

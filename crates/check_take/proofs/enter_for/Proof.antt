@@ -57,14 +57,19 @@ module _ (s : tie.Start) where
   level-of os l = ap length l ∙ loops-count (s .args .around) (s .pre .1)
 
 -- the first test is whether the rule fits, with any blocks of as many loops open
-tested : (c : tie.After-for-fits) (os : List Opened) → length (Derivation.loops os) ≡ c .before .before .args .around .count → c .for-fits .result ≡ Fits (c .before .before) os
-tested c os e =
-    let s = c .before .before in
-    tests (file s) (s .args .c) (s .args .at) (l s) os (rec (s .args .a)) (rec (s .args .s)) (c .for-fits .result) (s .pre .3 .array-is) (s .pre .3 .stream-is) (c .for-fits .ensures (here s os) refl e)
+module _ (c : tie.After-for-fits) where
+  abbrev start : tie.Start
+  start = c .before .before .before .before
+
+  tested : (os : List Opened) → length (Derivation.loops os) ≡ start .args .around .count → c .for-fits .result ≡ Fits start os
+  tested os e =
+      let a = c .before .before .array-next in
+      let s = c .before .stream-next in
+      tests (file start) (start .args .c) (start .args .at) (l start) os (rec (a .result)) (rec (s .result)) (c .for-fits .result) (a .ensures) (s .ensures) (c .for-fits .ensures (here start os) refl e)
 
 module _ (c : tie.Else1) where
   abbrev begun : tie.Start
-  begun = c .before .before .before
+  begun = start (c .before)
 
   goes : (os : List Opened) → length (Derivation.loops os) ≡ begun .args .around .count → Fits begun os ≡ true
   goes os e = passed {t = Fits begun os} (tested (c .before) os e) (c .if1 .left)
@@ -92,8 +97,10 @@ module _ (c : tie.After-state) where
 
 first-is : (c : tie.After-signed) → back (c .signed .result) ≡ first (begun (fitted (c .before)))
 first-is c =
-    let s = begun (fitted (c .before)) in
-    as-returned {z = c .signed .result} (c .signed .ok) ∙ c .signed .ensures ∙ first-as (file s) (s .args .c) (s .args .at) (l s) (rec (s .args .a)) (s .pre .3 .array-is)
+    let g = fitted (c .before) in
+    let s = begun g in
+    let a = g .before .before .before .array-next in
+    as-returned {z = c .signed .result} (c .signed .ok) ∙ c .signed .ensures ∙ first-as (file s) (s .args .c) (s .args .at) (l s) (rec (a .result)) (a .ensures)
 
 -- the second is whether the rows are true at first
 module _ (c : tie.After-rows-true) where
@@ -111,9 +118,15 @@ module _ (c : tie.After-rows-true) where
 
 -- ---- the needs
 
+array-next-requires : tie.Need-array-next-requires
+array-next-requires c κs = search needs
+
+stream-next-requires : tie.Need-stream-next-requires
+stream-next-requires c κs = search needs
+
 for-fits-requires : tie.Need-for-fits-requires
 for-fits-requires c κs =
-    let s = c .before in
+    let s = c .before .before .before in
     (s .pre .0 .reads, omega (arith, few (file s) (s .args .c) (s .pre .0 .reads) .rules, s .pre .0 .there), s .pre .1)
 
 stays-requires : tie.Need-stays-requires
@@ -121,7 +134,7 @@ stays-requires c κs = search needs
 
 returns : tie.Need-returns
 returns c =
-    let s = c .before .before .before .before in
+    let s = start (c .before .before) in
     let k = s .args .c in
     let at = s .args .at in
     let e = ap (λ r. with-ledger r (l s)) (c .stays .ensures) in
@@ -236,6 +249,8 @@ pub enter-for-spec : {M : Type 1} → statement M
 enter-for-spec =
     tie.close
     (tie.spec
+    array-next-requires
+    stream-next-requires
     for-fits-requires
     stays-requires
     returns

@@ -18,15 +18,21 @@ use Rattle.check_take.proofs.enter_if.Statement.{statement}
 use Rattle.check_take.proofs.enter_if.Tie as tie
 
 -- the test is whether the rule fits, wherever the derivation stands
-fits-is : (c : tie.After-fits2) (d : Place) → c .fits2 .result ≡ fits-there (c .before .before .args .file .now) (c .before .before .args .c) (c .before .before .args .at) 8 d
+fits-is : (c : tie.After-fits2) (d : Place) → let s = c .before .before .before .before in c .fits2 .result ≡ fits-there (s .args .file .now) (s .args .c) (s .args .at) 8 d
 fits-is c d =
-    let s = c .before .before in
+    let s = c .before .before .before .before in
     let k = K (s .args .file .now) (s .args .c) in
-    c .fits2 .ensures k d (registers-are (s .args .file .now) (s .args .c)) ∙ (λ i. Check.fits k d (rule 8) (s .pre .2 .array-is i) (s .pre .2 .stream-is i))
+    c .fits2 .ensures k d (registers-are (s .args .file .now) (s .args .c)) ∙ (λ i. Check.fits k d (rule 8) (c .before .before .array-next .ensures i) (c .before .stream-next .ensures i))
+
+array-next-requires : tie.Need-array-next-requires
+array-next-requires c κs = search needs
+
+stream-next-requires : tie.Need-stream-next-requires
+stream-next-requires c κs = search needs
 
 fits-requires : tie.Need-fits-requires
 fits-requires c κs =
-    let s = c .before in
+    let s = c .before .before .before in
     ((λ z. omega (arith, z)), few (s .args .file .now) (s .args .c) (s .pre .0 .1 .reads) .registers)
 
 stays-requires : tie.Need-stays-requires
@@ -34,7 +40,7 @@ stays-requires c κs = search needs
 
 returns : tie.Need-returns
 returns c l there =
-    let s = c .before .before .before .before in
+    let s = c .before .before .before .before .before .before in
     let file = s .args .file .now in
     let k = s .args .c in
     let at = s .args .at in
@@ -47,13 +53,13 @@ returns c l there =
 
 took-requires : tie.Need-took-requires
 took-requires c κs =
-    let s = c .before .before .before in
+    let s = c .before .before .before .before .before in
     let n = near (s .args .file .now) (s .args .c) (s .args .at) _ (s .pre .0 .1 .reads) (s .pre .0 .1 .stood) in
     (n .0, n .1, n .2, omega arith)
 
 returns-2 : tie.Need-returns-2
 returns-2 c l there =
-    let s = c .before .before .before .before in
+    let s = c .before .before .before .before .before .before in
     let file = s .args .file .now in
     let k = s .args .c in
     let at = s .args .at in
@@ -66,4 +72,13 @@ returns-2 c l there =
     }
 
 pub enter-if-spec : {M : Type 1} → statement M
-enter-if-spec = tie.close (tie.spec fits-requires stays-requires returns took-requires returns-2)
+enter-if-spec =
+    tie.close
+    (tie.spec
+    array-next-requires
+    stream-next-requires
+    fits-requires
+    stays-requires
+    returns
+    took-requires
+    returns-2)

@@ -1,13 +1,12 @@
 -- The cycle {check_block, check_rule} meets its contracts, by the laws of `Walks` and `Stretches`. Derivation records left fall: twice of them
 -- for a rule, and one more for a block.
-use Prim.Native.Nat.{ℕ, _+_, _-_, _≤_, _<_}
+use Prim.Native.Nat.{ℕ, _+_, _-_, _<_}
 use mathlib.Core.Path.{_≡_, refl, sym, ap, subst, _∙_}
 use mathlib.Core.Bool.{true, false≢true}
 use mathlib.Core.List.{List, _∷_}
 use native.Mathlib.Omega.{arith}
 use lib.IntN.{ℤ}
 use borrow.Author.Needs.{needs}
-use borrow.Author.Tests.{not-true}
 use borrow.Fn.Kinds.{In}
 use borrow.Fn.PlainCycle.{Measures, is, falls, and}
 use Rattle.forms.specs.Code.{loop, loops}
@@ -16,19 +15,12 @@ use Rattle.kernel.specs.Reading.{open-if}
 use Rattle.kernel.specs.Derivation as S
 use Rattle.kernel.specs.Guarantees.{LoopFits}
 use Rattle.parts.specs.declared.Counts.{Counts}
-use Rattle.parts.specs.Records.{rec}
 use Rattle.parts.proofs.Room.{loop-room}
 use Rattle.check_ledger.proofs.Bounds.{bounded-wider}
-use Rattle.check_rules.specs.View.{arrays-taken, Steps}
-use Rattle.check_rules.proofs.Effects.{unchanged}
-use Rattle.check_take.specs.declared.Place.{Place}
-use Rattle.check_take.specs.View.{Taken, standing, with-ledger, past, loop-there, rule-code, Closing, Stood, AtRule, Next, Onward, Enters, ReadsOn, EnteredIf, Turned, TakenPlain, Refuses}
-use Rattle.check_take.proofs.Standing.{near, small-ledger}
-use Rattle.check_take.proofs.Going.{one-at-most}
-use Rattle.check_take.proofs.Plain.{plain-refused, plain-taken}
-use Rattle.check_walk.specs.View.{Goes, Further, Rests, Opens, Stops, RuleWalked}
+use Rattle.check_take.specs.View.{Taken, standing, with-ledger, loop-there, rule-code, Closing, Plain, Stood, AtRule, Onward, Enters, ReadsOn, EnteredIf, Turned}
+use Rattle.check_walk.specs.View.{Goes, Further, Rests, Opens}
 use Rattle.check_walk.proofs.Walks.{goes-none, goes-rule, goes-then, comes-inside}
-use Rattle.check_walk.proofs.Stretches.{closing-code, other-code, plain-code, stops-inside, for-body, for-left, if-entered, if-first, if-turned, if-second, if-left, further-none, further-then, further-opens, further-rule, further-for, further-if, opens-for, opens-if, opens-else}
+use Rattle.check_walk.proofs.Stretches.{closing-code, other-code, plain-code, stops-inside, for-body, for-left, if-entered, if-first, if-turned, if-second, if-left, further-none, further-then, further-opens, further-for, further-if, opens-for, opens-if, opens-else}
 use Rattle.check_walk.proofs.check_block.Reads as check-block
 use Rattle.check_walk.proofs.check_block.Kinds as check-block-kinds
 use Rattle.check_walk.proofs.+check_block+check_rule.Lts-check_block as check-block-lts
@@ -38,20 +30,14 @@ use Rattle.check_walk.proofs.+check_block+check_rule.Lts-check_rule as 
 use Rattle.numbers.proofs.between.Reads as between-reads
 use Rattle.forms.proofs.Loops.deeper.Reads as deeper-reads
 use Rattle.parts.proofs.loop_of.Reads as loop-of-reads
-use Rattle.check_rules.proofs.arrays_taken.Reads as arrays-taken-reads
-use Rattle.check_rules.proofs.step.Reads as step-reads
-use Rattle.check_rules.proofs.steps.Reads as steps-reads
 use Rattle.check_take.proofs.array_next.Reads as array-next-reads
 use Rattle.check_take.proofs.code_next.Reads as code-next-reads
 use Rattle.check_take.proofs.enter_for.Reads as enter-for-reads
 use Rattle.check_take.proofs.enter_if.Reads as enter-if-reads
 use Rattle.check_take.proofs.leave_for.Reads as leave-for-reads
 use Rattle.check_take.proofs.leave_if.Reads as leave-if-reads
-use Rattle.check_take.proofs.refuses.Reads as refuses-reads
-use Rattle.check_take.proofs.stays.Reads as stays-reads
-use Rattle.check_take.proofs.stream_next.Reads as stream-next-reads
-use Rattle.check_take.proofs.took.Reads as took-reads
 use Rattle.check_take.proofs.turn.Reads as turn-reads
+use Rattle.check_walk.proofs.check_plain.Reads as check-plain-reads
 use Rattle.check_walk.proofs.closing.Reads as closing-reads
 use Rattle.check_walk.proofs.over.Reads as over-reads
 use Rattle.check_walk.proofs.+check_block+check_rule.{statement as both}
@@ -91,12 +77,10 @@ b-calls t = (
 
 abbrev r-calls : ℕ → check-rule-lts.Claims
 r-calls t = (
-  array-next-reads.Asked,
-  array-next-reads.Learnt,
-  stream-next-reads.Asked,
-  stream-next-reads.Learnt,
   enter-for-reads.Asked,
   enter-for-reads.Learnt,
+  array-next-reads.Asked,
+  array-next-reads.Learnt,
   loop-of-reads.Asked,
   loop-of-reads.Learnt,
   deeper-reads.Asked,
@@ -111,18 +95,8 @@ r-calls t = (
   turn-reads.Learnt,
   leave-if-reads.Asked,
   leave-if-reads.Learnt,
-  refuses-reads.Asked,
-  refuses-reads.Learnt,
-  stays-reads.Asked,
-  stays-reads.Learnt,
-  steps-reads.Asked,
-  steps-reads.Learnt,
-  arrays-taken-reads.Asked,
-  arrays-taken-reads.Learnt,
-  took-reads.Asked,
-  took-reads.Learnt,
-  step-reads.Asked,
-  step-reads.Learnt,
+  check-plain-reads.Asked,
+  check-plain-reads.Learnt,
 )
 
 -- ---- a block
@@ -235,10 +209,10 @@ check-block-returns-3 t c =
 
 -- ---- a rule
 
--- whose next statements have been read
-module _ (t : ℕ) (c : check-rule-lts.After-stream-next (r-calls t) (check-rule-at t) check-rule.Post) where
+-- at its beginning
+module _ (t : ℕ) (c : check-rule-lts.After-shared-slice-known (r-calls t) (check-rule-at t) check-rule.Post) where
   abbrev check-rule-start : check-rule-lts.Start (r-calls t) (check-rule-at t) check-rule.Post
-  check-rule-start = c .before .before .before
+  check-rule-start = c .before
 
   abbrev check-rule-file : List ℕ
   check-rule-file = check-rule-start .args .file .now
@@ -258,9 +232,6 @@ module _ (t : ℕ) (c : check-rule-lts.After-stream-next (r-calls t) (check-rule
   check-rule-there : AtRule check-rule-file check-rule-counts (check-rule-from .at) check-rule-ledger
   check-rule-there = record { reads = check-rule-start .pre .1 .0; stood = check-rule-start .pre .1 .1; there = check-rule-start .pre .1 .2 }
 
-  check-rule-next : Next check-rule-file check-rule-counts (check-rule-from .at) (c .before .array-next .result) (c .stream-next .result)
-  check-rule-next = record { array-is = c .before .array-next .ensures; stream-is = c .stream-next .ensures }
-
   -- a block inside has been walked to v, where a rule closes it
   check-rule-closes : (v : Taken) → Stood check-rule-counts (v .at) (v .ledger) → Rests check-rule-file check-rule-counts true (v .at)
       → AtRule check-rule-file check-rule-counts (v .at) (v .ledger) × Closing (rule-code check-rule-file check-rule-counts (v .at))
@@ -268,19 +239,13 @@ module _ (t : ℕ) (c : check-rule-lts.After-stream-next (r-calls t) (check-rule
       let (there, code) = comes-inside check-rule-file check-rule-counts (v .at) s in
       (record { reads = check-rule-start .pre .1 .0; stood = h; there = there }, code)
 
-check-rule-array-next-requires : (t : ℕ) → check-rule-lts.Need-array-next-requires (r-calls t) (check-rule-at t) check-rule.Post
-check-rule-array-next-requires t c κs = c .before .pre .1 .0
-
-check-rule-stream-next-requires : (t : ℕ) → check-rule-lts.Need-stream-next-requires (r-calls t) (check-rule-at t) check-rule.Post
-check-rule-stream-next-requires t c κs = c .before .before .pre .1 .0
-
 -- ---- a for
 
 check-rule-enter-for-requires : (t : ℕ) → check-rule-lts.Need-enter-for-requires (r-calls t) (check-rule-at t) check-rule.Post
 check-rule-enter-for-requires t c κs =
     let b = c .before .before in
     let p = check-rule-start t b .pre .1 in
-    (check-rule-there t b, p .4, sym (p .6) ∙ c .before .if1 .taken, check-rule-next t b)
+    (check-rule-there t b, p .4, sym (p .6) ∙ c .before .if1 .taken)
 
 check-rule-returns : (t : ℕ) → check-rule-lts.Need-returns (r-calls t) (check-rule-at t) check-rule.Post
 check-rule-returns t c =
@@ -295,7 +260,7 @@ check-rule-returns t c =
 
 -- entered
 module _ (t : ℕ) (c : check-rule-lts.Else2 (r-calls t) (check-rule-at t) check-rule.Post) where
-  abbrev check-rule-for-read : check-rule-lts.After-stream-next (r-calls t) (check-rule-at t) check-rule.Post
+  abbrev check-rule-for-read : check-rule-lts.After-shared-slice-known (r-calls t) (check-rule-at t) check-rule.Post
   check-rule-for-read = c .before .before .before .before .before
 
   abbrev check-rule-for-in : Taken
@@ -310,13 +275,16 @@ module _ (t : ℕ) (c : check-rule-lts.Else2 (r-calls t) (check-rule-at t) check
 -- its loop has been read
 module _ (t : ℕ) (c : check-rule-lts.After-loop-of (r-calls t) (check-rule-at t) check-rule.Post) where
   abbrev check-rule-for-entered : check-rule-lts.Else2 (r-calls t) (check-rule-at t) check-rule.Post
-  check-rule-for-entered = c .before .before
+  check-rule-for-entered = c .before .before .before
 
   check-rule-for-same : loop (c .loop-of .result) ≡ loop-there (check-rule-file t (check-rule-for-read t check-rule-for-entered)) (check-rule-counts t (check-rule-for-read t check-rule-for-entered)) (check-rule-from t (check-rule-for-read t check-rule-for-entered) .at)
-  check-rule-for-same = c .loop-of .ensures ∙ ap loop-of (check-rule-next t (check-rule-for-read t check-rule-for-entered) .array-is)
+  check-rule-for-same = c .loop-of .ensures ∙ ap loop-of (c .before .array-next .ensures)
 
   check-rule-for-fits : LoopFits (loop (c .loop-of .result))
   check-rule-for-fits = subst LoopFits (sym check-rule-for-same) (check-rule-for-enters t check-rule-for-entered .fits)
+
+check-rule-array-next-requires : (t : ℕ) → check-rule-lts.Need-array-next-requires (r-calls t) (check-rule-at t) check-rule.Post
+check-rule-array-next-requires t c κs = check-rule-start t (check-rule-for-read t (c .before)) .pre .1 .0
 
 check-rule-loop-of-requires : (t : ℕ) → check-rule-lts.Need-loop-of-requires (r-calls t) (check-rule-at t) check-rule.Post
 check-rule-loop-of-requires t c κs = search needs
@@ -405,11 +373,11 @@ check-rule-returns-3 t c =
 check-rule-enter-if-requires : (t : ℕ) → check-rule-lts.Need-enter-if-requires (r-calls t) (check-rule-at t) check-rule.Post
 check-rule-enter-if-requires t c κs =
     let b = c .before .before in
-    ((check-rule-ledger t b, check-rule-there t b), sym (check-rule-start t b .pre .1 .6) ∙ c .if4 .taken, check-rule-next t b)
+    ((check-rule-ledger t b, check-rule-there t b), sym (check-rule-start t b .pre .1 .6) ∙ c .if4 .taken)
 
 -- what entering it comes to: the ledger stays
 module _ (t : ℕ) (c : check-rule-lts.After-enter-if (r-calls t) (check-rule-at t) check-rule.Post) where
-  abbrev check-rule-if-read : check-rule-lts.After-stream-next (r-calls t) (check-rule-at t) check-rule.Post
+  abbrev check-rule-if-read : check-rule-lts.After-shared-slice-known (r-calls t) (check-rule-at t) check-rule.Post
   check-rule-if-read = c .before .before .before
 
   abbrev check-rule-if-in : Taken
@@ -473,7 +441,7 @@ module _ (t : ℕ) (c : check-rule-lts.Else6 (r-calls t) (check-rule-at t) check
   abbrev check-rule-first-of : check-rule-lts.After-check-block2 (r-calls t) (check-rule-at t) check-rule.Post
   check-rule-first-of = c .before .before
 
-  abbrev check-rule-first-read : check-rule-lts.After-stream-next (r-calls t) (check-rule-at t) check-rule.Post
+  abbrev check-rule-first-read : check-rule-lts.After-shared-slice-known (r-calls t) (check-rule-at t) check-rule.Post
   check-rule-first-read = check-rule-if-read t (check-rule-if-at t (check-rule-first-in t check-rule-first-of))
 
   abbrev check-rule-first-walked : Further (check-rule-file t check-rule-first-read) (check-rule-counts t check-rule-first-read) (check-rule-if-in t (check-rule-if-at t (check-rule-first-in t check-rule-first-of)) .at) (check-rule-first-end t check-rule-first-of .at) (check-rule-first-end t check-rule-first-of .ledger)
@@ -490,7 +458,7 @@ module _ (t : ℕ) (c : check-rule-lts.After-turn (r-calls t) (check-rule-at t) 
   abbrev check-rule-turn-of : check-rule-lts.Else6 (r-calls t) (check-rule-at t) check-rule.Post
   check-rule-turn-of = c .before
 
-  abbrev check-rule-turn-read : check-rule-lts.After-stream-next (r-calls t) (check-rule-at t) check-rule.Post
+  abbrev check-rule-turn-read : check-rule-lts.After-shared-slice-known (r-calls t) (check-rule-at t) check-rule.Post
   check-rule-turn-read = check-rule-first-read t check-rule-turn-of
 
   abbrev check-rule-turn-end : Taken
@@ -572,7 +540,7 @@ module _ (t : ℕ) (c : check-rule-lts.Else8 (r-calls t) (check-rule-at t) check
   abbrev check-rule-second-turned : check-rule-lts.After-turn (r-calls t) (check-rule-at t) check-rule.Post
   check-rule-second-turned = check-rule-turned-at t (check-rule-second-in t check-rule-second-of)
 
-  abbrev check-rule-second-read : check-rule-lts.After-stream-next (r-calls t) (check-rule-at t) check-rule.Post
+  abbrev check-rule-second-read : check-rule-lts.After-shared-slice-known (r-calls t) (check-rule-at t) check-rule.Post
   check-rule-second-read = check-rule-turn-read t check-rule-second-turned
 
   abbrev check-rule-second-walked : Further (check-rule-file t check-rule-second-read) (check-rule-counts t check-rule-second-read) (check-rule-turned t check-rule-second-turned .at) (check-rule-second-end t check-rule-second-of .at) (check-rule-second-end t check-rule-second-of .ledger)
@@ -608,99 +576,14 @@ check-rule-returns-8 t c =
 
 -- ---- any other rule
 
-check-rule-refuses-requires : (t : ℕ) → check-rule-lts.Need-refuses-requires (r-calls t) (check-rule-at t) check-rule.Post
-check-rule-refuses-requires t c κs =
-    let b = c .before .before .before in
-    let s = check-rule-start t b in
+check-rule-check-plain-requires : (t : ℕ) → check-rule-lts.Need-check-plain-requires (r-calls t) (check-rule-at t) check-rule.Post
+check-rule-check-plain-requires t c κs =
+    let s = check-rule-start t (c .before .before .before) in
     let p = s .pre .1 in
-    (p .0, p .3, plain-code (s .args .code) (c .before .before .if1 .left) (c .before .if4 .left) (p .7), (s .args .at, check-rule-next t b), small-ledger (check-rule-file t b) (check-rule-counts t b) (s .args .at) (check-rule-ledger t b) (p .0) (p .1))
-
--- whether it is refused has been answered
-module _ (t : ℕ) (c : check-rule-lts.After-refuses (r-calls t) (check-rule-at t) check-rule.Post) where
-  abbrev check-rule-plain-read : check-rule-lts.After-stream-next (r-calls t) (check-rule-at t) check-rule.Post
-  check-rule-plain-read = c .before .before .before .before
-
-  abbrev check-rule-plain-rule : S.Rule
-  check-rule-plain-rule = S.rule (check-rule-start t check-rule-plain-read .args .code)
-
-  abbrev check-rule-plain-near : (check-rule-from t check-rule-plain-read .at .rule ≤ 4096) × (check-rule-from t check-rule-plain-read .at .array ≤ 4096) × (check-rule-from t check-rule-plain-read .at .stream ≤ 4096)
-  check-rule-plain-near = near (check-rule-file t check-rule-plain-read) (check-rule-counts t check-rule-plain-read) (check-rule-from t check-rule-plain-read .at) (check-rule-ledger t check-rule-plain-read) (check-rule-start t check-rule-plain-read .pre .1 .0) (check-rule-start t check-rule-plain-read .pre .1 .1)
-
-  -- taken so, it has been walked
-  check-rule-plain-walked : (r r′ : Taken) → r ≡ r′ → TakenPlain (check-rule-file t check-rule-plain-read) (check-rule-counts t check-rule-plain-read) (check-rule-from t check-rule-plain-read .at) (check-rule-ledger t check-rule-plain-read) (loops (check-rule-start t check-rule-plain-read .args .ls)) r′
-      → RuleWalked (check-rule-file t check-rule-plain-read) (check-rule-counts t check-rule-plain-read) (loops (check-rule-start t check-rule-plain-read .args .ls)) (check-rule-from t check-rule-plain-read) r
-  check-rule-plain-walked r r′ e T =
-      subst (RuleWalked (check-rule-file t check-rule-plain-read) (check-rule-counts t check-rule-plain-read) (loops (check-rule-start t check-rule-plain-read .args .ls)) (check-rule-from t check-rule-plain-read)) (sym e) (
-        (λ os k. goes-rule (check-rule-file t check-rule-plain-read) (check-rule-counts t check-rule-plain-read) os os (check-rule-from t check-rule-plain-read) r′ (check-rule-start t check-rule-plain-read .pre .1 .2) (T .as-defined os k)),
-        (λ z. further-rule (check-rule-file t check-rule-plain-read) (check-rule-counts t check-rule-plain-read) (check-rule-from t check-rule-plain-read .at) r′ (T .onward z) (T .reads-on z)),
-      )
-
-  -- with this ledger after its step
-  check-rule-plain-steps : (m : List ℤ) → c .refuses .result ≡ 0 → Steps (check-rule-file t check-rule-plain-read) (check-rule-counts t check-rule-plain-read) check-rule-plain-rule (rec (check-rule-plain-read .before .array-next .result)) (rec (check-rule-plain-read .stream-next .result)) (check-rule-ledger t check-rule-plain-read) m
-      → (r : Taken) → r ≡ past (check-rule-from t check-rule-plain-read .at) (arrays-taken check-rule-plain-rule) m
-      → RuleWalked (check-rule-file t check-rule-plain-read) (check-rule-counts t check-rule-plain-read) (loops (check-rule-start t check-rule-plain-read .args .ls)) (check-rule-from t check-rule-plain-read) r
-  check-rule-plain-steps m z S r e =
-      check-rule-plain-walked r _ e (plain-taken (c .refuses .ensures) (check-rule-from t check-rule-plain-read .at) (check-rule-there t check-rule-plain-read) (check-rule-start t check-rule-plain-read .pre .1 .6) (check-rule-next t check-rule-plain-read) m z S)
-
-check-rule-stays-requires : (t : ℕ) → check-rule-lts.Need-stays-requires (r-calls t) (check-rule-at t) check-rule.Post
-check-rule-stays-requires t c κs = search needs
+    (p .0, p .1, p .2, p .3, subst Plain (p .6) (plain-code (s .args .code) (c .before .before .if1 .left) (c .before .if4 .left) (p .7)))
 
 check-rule-returns-9 : (t : ℕ) → check-rule-lts.Need-returns-9 (r-calls t) (check-rule-at t) check-rule.Post
-check-rule-returns-9 t c =
-    let p = c .before .before in
-    let b = check-rule-plain-read t p in
-    let l = check-rule-ledger t b in
-    check-rule-plain-walked t p (with-ledger (c .stays .result) l) _ (ap (λ r. with-ledger r l) (c .stays .ensures))
-    (plain-refused (p .refuses .ensures) (check-rule-from t b .at) (check-rule-there t b) (check-rule-start t b .pre .1 .6) (check-rule-next t b) (c .before .if9 .taken))
-
-check-rule-steps-requires : (t : ℕ) → check-rule-lts.Need-steps-requires (r-calls t) (check-rule-at t) check-rule.Post
-check-rule-steps-requires t c κs = search needs
-
-check-rule-arrays-taken-requires : (t : ℕ) → check-rule-lts.Need-arrays-taken-requires (r-calls t) (check-rule-at t) check-rule.Post
-check-rule-arrays-taken-requires t c κs = search needs
-
-check-rule-took-requires : (t : ℕ) → check-rule-lts.Need-took-requires (r-calls t) (check-rule-at t) check-rule.Post
-check-rule-took-requires t c κs =
-    let p = c .before .before .before .before in
-    let n = check-rule-plain-near t p in
-    (n .0, n .1, n .2, omega (arith, c .arrays-taken .ensures, one-at-most (check-rule-plain-rule t p)))
-
-check-rule-returns-10 : (t : ℕ) → check-rule-lts.Need-returns-10 (r-calls t) (check-rule-at t) check-rule.Post
-check-rule-returns-10 t c =
-    let d = c .before .before in
-    let p = d .before .before .before in
-    let b = check-rule-plain-read t p in
-    let l = check-rule-ledger t b in
-    let same = unchanged (check-rule-file t b) (check-rule-counts t b) (check-rule-plain-rule t p) _ _ l (sym (d .before .steps .ensures) ∙ not-true _ (d .if10 .taken)) in
-    check-rule-plain-steps t p l (d .before .before .if9 .left) same (with-ledger (c .took .result) l)
-    (ap (λ r. with-ledger r l) (c .took .ensures) ∙ ap (λ n. past (check-rule-from t b .at) n l) (c .before .arrays-taken .ensures))
-
-check-rule-step-requires : (t : ℕ) → check-rule-lts.Need-step-requires (r-calls t) (check-rule-at t) check-rule.Post
-check-rule-step-requires t c κs =
-    let d = c .before .before .before in
-    let p = d .before in
-    let b = check-rule-plain-read t p in
-    let s = check-rule-start t b in
-    (s .pre .1 .0, p .refuses .ensures .named (d .if9 .left), small-ledger (check-rule-file t b) (check-rule-counts t b) (s .args .at) (check-rule-ledger t b) (s .pre .1 .0) (s .pre .1 .1))
-
-check-rule-arrays-taken-requires-2 : (t : ℕ) → check-rule-lts.Need-arrays-taken-requires-2 (r-calls t) (check-rule-at t) check-rule.Post
-check-rule-arrays-taken-requires-2 t c κs = search needs
-
-check-rule-took-requires-2 : (t : ℕ) → check-rule-lts.Need-took-requires-2 (r-calls t) (check-rule-at t) check-rule.Post
-check-rule-took-requires-2 t c κs =
-    let p = c .before .before .before .before .before .before in
-    let n = check-rule-plain-near t p in
-    (n .0, n .1, n .2, omega (arith, c .arrays-taken2 .ensures, one-at-most (check-rule-plain-rule t p)))
-
-check-rule-returns-11 : (t : ℕ) → check-rule-lts.Need-returns-11 (r-calls t) (check-rule-at t) check-rule.Post
-check-rule-returns-11 t c =
-    let k = c .before .before in
-    let d = k .before .before .before .before in
-    let p = d .before in
-    let b = check-rule-plain-read t p in
-    let m = k .step .last .1 .1 .1 .1 .1 .0 in
-    check-rule-plain-steps t p m (d .if9 .left) (k .step .ensures) (with-ledger (c .took2 .result) m)
-    (ap (λ r. with-ledger r m) (c .took2 .ensures) ∙ ap (λ n. past (check-rule-from t b .at) n m) (c .before .arrays-taken2 .ensures))
+check-rule-returns-9 t c = c .check-plain .ensures
 
 pub +check-block+check-rule-spec : {M : Type 1} → both M
 +check-block+check-rule-spec = close μ-check-block μ-check-rule (λ t. check-block-lts.spec (b-calls t)
@@ -722,10 +605,9 @@ pub +check-block+check-rule-spec : {M : Type 1} → both M
     λ t. check-rule-lts.spec (r-calls t)
     (check-rule-at t)
     check-rule.Post
-    (check-rule-array-next-requires t)
-    (check-rule-stream-next-requires t)
     (check-rule-enter-for-requires t)
     (check-rule-returns t)
+    (check-rule-array-next-requires t)
     (check-rule-loop-of-requires t)
     (check-rule-deeper-requires t)
     (check-rule-check-block-requires t)
@@ -742,14 +624,5 @@ pub +check-block+check-rule-spec : {M : Type 1} → both M
     (check-rule-returns-7 t)
     (check-rule-leave-if-requires t)
     (check-rule-returns-8 t)
-    (check-rule-refuses-requires t)
-    (check-rule-stays-requires t)
+    (check-rule-check-plain-requires t)
     (check-rule-returns-9 t)
-    (check-rule-steps-requires t)
-    (check-rule-arrays-taken-requires t)
-    (check-rule-took-requires t)
-    (check-rule-returns-10 t)
-    (check-rule-step-requires t)
-    (check-rule-arrays-taken-requires-2 t)
-    (check-rule-took-requires-2 t)
-    (check-rule-returns-11 t)
