@@ -1,12 +1,13 @@
 /* Answers a batch of requests through the C boundary: standard input and output as the program `second answer` of
  * tests/second has them. The areas stand at odd addresses between guards, an empty one is handed over as NULL, and what
- * must stay as it was is compared after every call. Exit status 1: a bad batch; 3: a call wrote where it must not. */
+ * must stay as it was is compared after every call. The most stack that a call took goes to standard error, in bytes.
+ * Exit status 1: a bad batch; 3: a call wrote where it must not. */
 #include "shellquiver.h"
 
 #include <stdio.h>
 #include <string.h>
 
-enum { LONGEST = 65536, GUARD = 17, ROOM = GUARD + LONGEST + GUARD };
+enum { LONGEST = 65536, GUARD = 17, ROOM = GUARD + LONGEST + GUARD, DEEPEST = 16384 };
 
 struct area {
     uint8_t room[ROOM];
@@ -64,13 +65,37 @@ static uint64_t answered(uint32_t call)
     }
 }
 
+/* The stack below its caller: marks DEEPEST words of it, or counts those that no call has used since, from the far end. */
+static size_t stack_below(int mark)
+{
+    const uint64_t marked = 0xa5c35aa53c5ac33c;
+    uint64_t words[DEEPEST];
+    volatile uint64_t *volatile stack = words; /* which hides that nothing here wrote what is read */
+    size_t k = 0;
+    if (mark)
+        while (k < DEEPEST)
+            stack[k++] = marked;
+    else
+        while (k < DEEPEST && stack[k] == marked)
+            k++;
+    return k;
+}
+
+/* Called through pointers, so that each has its frame in the same place. */
+static size_t (*volatile unused_stack)(int) = stack_below;
+static uint64_t (*volatile answer_to)(uint32_t) = answered;
+
 int main(void)
 {
     uint32_t call;
+    size_t unused = DEEPEST;
     while (take_number(&call)) {
         if (call < 1 || call > 5 || !take_area(&file) || !take_area(&input) || !take_area(&output))
             return 1;
-        uint64_t answer = answered(call);
+        unused_stack(1);
+        uint64_t answer = answer_to(call);
+        size_t left = unused_stack(0);
+        unused = left < unused ? left : unused;
         unsigned number = sq_number(answer);
         int untouched = call == 1 || (number != SQ_DONE && number < SQ_UNSET_REGISTER);
         if (!stayed(&file) || !stayed(&input) || !guarded(&output) || (untouched && !stayed(&output)))
@@ -79,5 +104,6 @@ int main(void)
             putchar((int)(answer >> (8 * k) & 0xff));
         fwrite(output.room + GUARD, 1, output.length, stdout);
     }
+    fprintf(stderr, "%u\n", (unsigned)((DEEPEST - unused) * sizeof(uint64_t)));
     return 0;
 }

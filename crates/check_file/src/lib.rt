@@ -5,17 +5,14 @@ use forms::Form;
 use parts::Counts;
 use read_counts::Read;
 ghost use mathlib.Core.Path.{_≡_};
-ghost use mathlib.Core.List.{map};
 ghost use Prim.Native.Nat.{_^_, _<_};
-ghost use lib.ListN.{take};
-ghost use Rattle.forms.specs.Code.{form};
 ghost use Rattle.kernel.specs.File as File;
 ghost use Rattle.kernel.specs.Ledger as L;
 ghost use Rattle.kernel.specs.Check as Check;
 ghost use Rattle.kernel.specs.Answers as Answers;
 ghost use Rattle.parts.specs.Parts.{kernel, ReadAs};
 ghost use Rattle.parts.specs.Arrays.{arrays-of, Arrays};
-ghost use Rattle.check_ledger.specs.View.{positions};
+ghost use Rattle.check_ledger.specs.View.{positions-of};
 ghost use Rattle.check_file.specs.declared.Checked.the-variants.{Refused};
 ghost use Rattle.check_file.specs.View.{answer, refusal-at, origin};
 ghost use Rattle.check_file.specs.Promises.{Checks};
@@ -51,7 +48,7 @@ fn refused_at(at: Place, number: u8) -> Checked
 // Whether each of n positions is its array's count.
 fn all_counted(file: &[u8], n: usize, l: &Entries) -> bool
     requires { ⌜ Arrays (now file) n ⌝ }
-    ensures { λ r. ⌜ ((K : File.Kernel) (M : L.Ledger) → K .arrays ≡ arrays-of (now (file .entry)) n → M .positions ≡ map form (take n (positions (now (l .entry)))) → r ≡ Check.all-counted K M) ⌝ }
+    ensures { λ r. ⌜ ((K : File.Kernel) (M : L.Ledger) → K .arrays ≡ arrays-of (now (file .entry)) n → M .positions ≡ positions-of n (now (l .entry)) → r ≡ Check.all-counted K M) ⌝ }
 {
     let around = forms::outside();
     let mut j = 0;

@@ -6,6 +6,7 @@ use mathlib.Core.Option.{Option, none, some}
 use lib.IntN.{ℤ, pos, negsuc}
 use lib.ListN.{length, getD, set, take, replicate}
 use Rattle.forms.specs.declared.Form.{Form}
+use Rattle.forms.specs.Form as F
 use Rattle.forms.specs.Form.{Loop}
 use Rattle.forms.specs.Code.{form, Within}
 use Rattle.kernel.specs.File.{Kernel, array, first-of, step-of}
@@ -56,9 +57,15 @@ numbered (negsuc n) f = none
 abbrev pub held : Held → Option L.Held
 held h = numbered (h .number) (h .index)
 
--- the first a positions and the first b buffers
+-- of a streams and b buffers
+abbrev pub positions-of : (a : ℕ) → List ℤ → List F.Form
+positions-of a l = map form (take a (positions l))
+
+abbrev pub held-of : (b : ℕ) → List ℤ → List (Option L.Held)
+held-of b l = map held (take b (buffers l))
+
 unfoldable pub ledger : (a b : ℕ) → List ℤ → L.Ledger
-ledger a b l = record { positions = map form (take a (positions l)); buffers = map held (take b (buffers l)) }
+ledger a b l = record { positions = positions-of a l; buffers = held-of b l }
 
 abbrev pub zero-form : Form
 zero-form = record { k = pos 0; x0 = pos 0; x1 = pos 0; x2 = pos 0; x3 = pos 0 }
@@ -90,7 +97,7 @@ pub record Bounded (n : ℕ) (l : List ℤ) : Type 0 where
 -- r is l with the first a positions of another ledger
 pub record Took (a : ℕ) (from l r : List ℤ) : Type 0 where
   pub whole : Whole r
-  pub positions-are : map form (take a (positions r)) ≡ map form (take a (positions from))
+  pub positions-are : positions-of a r ≡ positions-of a from
   pub buffers-are : buffers r ≡ buffers l
   pub bounded : (n : ℕ) → Bounded n from → Bounded n l → Bounded n r
 
@@ -98,4 +105,4 @@ pub record Took (a : ℕ) (from l r : List ℤ) : Type 0 where
 pub record Kept (b : ℕ) (around : List Loop) (first l r : List ℤ) : Type 0 where
   pub whole : Whole r
   pub positions-are : positions r ≡ positions l
-  pub buffers-are : map held (take b (buffers r)) ≡ L.kept-all around (map held (take b (buffers first))) (map held (take b (buffers l)))
+  pub buffers-are : held-of b r ≡ L.kept-all around (held-of b first) (held-of b l)

@@ -104,7 +104,7 @@ fn row_held(r: Rec) -> Held
 // The first n positions become those that rows from record `from` on state.
 fn positions(file: &[u8], part: Part, from: usize, n: usize, rows: &mut Entries)
     requires { ⌜ Lies 1024 (now file) part × (from + n ≤ part .count) × (n ≤ 8) × SmallForms (records-in (now file) part) × Stated (now rows) ⌝ }
-    ensures { λ _. ⌜ (map form (take n (View.positions (now (rows .exit)))) ≡ map File.form (take n (drop from (records-in (now (file .entry)) part)))) × Stated (now (rows .exit)) ⌝ }
+    ensures { λ _. ⌜ (View.positions-of n (now (rows .exit)) ≡ map File.form (take n (drop from (records-in (now (file .entry)) part)))) × Stated (now (rows .exit)) ⌝ }
 {
     let mut i = 0;
     while i < n {
@@ -117,7 +117,7 @@ fn positions(file: &[u8], part: Part, from: usize, n: usize, rows: &mut Entries)
 // The first n buffers become what rows from record `from` on state.
 fn buffers(file: &[u8], part: Part, from: usize, n: usize, rows: &mut Entries)
     requires { ⌜ Lies 1024 (now file) part × (from + n ≤ part .count) × (n ≤ 16) × SmallForms (records-in (now file) part) × Stated (now rows) ⌝ }
-    ensures { λ _. ⌜ (map View.held (take n (View.buffers (now (rows .exit)))) ≡ map Derivation.row-held (take n (drop from (records-in (now (file .entry)) part)))) × (View.positions (now (rows .exit)) ≡ View.positions (now (rows .entry))) × Stated (now (rows .exit)) ⌝ }
+    ensures { λ _. ⌜ (View.held-of n (now (rows .exit)) ≡ map Derivation.row-held (take n (drop from (records-in (now (file .entry)) part)))) × (View.positions (now (rows .exit)) ≡ View.positions (now (rows .entry))) × Stated (now (rows .exit)) ⌝ }
 {
     let mut i = 0;
     while i < n {
@@ -217,7 +217,7 @@ fn buffers_true(
     around: Loops,
 ) -> bool
     requires { ⌜ Stated (now rows) × Small (2 ^ 16) (amount change) × (b ≤ 16) ⌝ }
-    ensures { λ r. ⌜ r ≡ alike (L.row-true (loops around)) (map (L.each-held (with-change level change)) (map View.held (take b (View.buffers (now (rows .entry)))))) (map View.held (take b (View.buffers (now (l .entry))))) ⌝ }
+    ensures { λ r. ⌜ r ≡ alike (L.row-true (loops around)) (map (L.each-held (with-change level change)) (View.held-of b (now (rows .entry)))) (View.held-of b (now (l .entry))) ⌝ }
 {
     let mut i = 0;
     while i < b {
@@ -255,7 +255,7 @@ pub fn rows_true(
 // The first a positions of a ledger become those of the rows.
 fn positions_left(rows: &Entries, level: usize, change: Change, a: usize, l: &mut Entries)
     requires { ⌜ Stated (now rows) × Small (2 ^ 16) (amount change) × (a ≤ 8) × ((n : ℕ) × Bounded n (now l)) ⌝ }
-    ensures { λ _. ⌜ (map form (take a (View.positions (now (l .exit)))) ≡ map (with-change level change) (map form (take a (View.positions (now (rows .entry)))))) × ((n : ℕ) → Bounded n (now (l .entry)) → Bounded n (now (l .exit))) ⌝ }
+    ensures { λ _. ⌜ (View.positions-of a (now (l .exit)) ≡ map (with-change level change) (View.positions-of a (now (rows .entry)))) × ((n : ℕ) → Bounded n (now (l .entry)) → Bounded n (now (l .exit))) ⌝ }
 {
     let mut i = 0;
     while i < a {
@@ -268,7 +268,7 @@ fn positions_left(rows: &Entries, level: usize, change: Change, a: usize, l: &mu
 // The first b buffers of a ledger become what those of the rows hold.
 fn buffers_left(rows: &Entries, level: usize, change: Change, b: usize, l: &mut Entries)
     requires { ⌜ Stated (now rows) × Small (2 ^ 16) (amount change) × (b ≤ 16) × Whole (now l) ⌝ }
-    ensures { λ _. ⌜ (map View.held (take b (View.buffers (now (l .exit)))) ≡ map (L.each-held (with-change level change)) (map View.held (take b (View.buffers (now (rows .entry)))))) × (View.positions (now (l .exit)) ≡ View.positions (now (l .entry))) × Whole (now (l .exit)) ⌝ }
+    ensures { λ _. ⌜ (View.held-of b (now (l .exit)) ≡ map (L.each-held (with-change level change)) (View.held-of b (now (rows .entry)))) × (View.positions (now (l .exit)) ≡ View.positions (now (l .entry))) × Whole (now (l .exit)) ⌝ }
 {
     let mut i = 0;
     while i < b {

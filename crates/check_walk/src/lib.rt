@@ -91,7 +91,8 @@ pub fn check_block(
     over(c, at, inside)
 }
 
-// Takes a rule: a for or an if with all inside it, a plain one with those after it.
+// Takes a rule: a for or an if with all inside it, a plain one with those after it. What a for's rows state is kept for the end of its body, and the
+// ledger at an if for its else.
 fn check_rule(file: &[u8], c: Counts, at: Place, l: &mut Entries, ls: Loops, code: u32) -> Reached
     requires { ⌜ RuleDue (now file) c (standing at (now l)) ls code ⌝ }
     ensures { λ r. ⌜ RuleWalked (now (file .entry)) c (loops ls) (standing at (now (l .entry))) (with-ledger r (now (l .exit))) ⌝ }
@@ -101,7 +102,6 @@ fn check_rule(file: &[u8], c: Counts, at: Place, l: &mut Entries, ls: Loops, cod
         if e.number != 0 {
             return e;
         }
-        // what the rows state, kept for the end of the body
         let rows = *l;
         let own = parts::loop_of(check_take::array_next(file, c, at));
         let inner = ls.deeper(own);
@@ -125,7 +125,6 @@ fn check_rule(file: &[u8], c: Counts, at: Place, l: &mut Entries, ls: Loops, cod
         if o.number != 0 {
             return o;
         }
-        // the else starts again from the ledger at the if
         let first = *l;
         *l = start;
         let u = check_block(file, c, o.at, l, ls, true);
