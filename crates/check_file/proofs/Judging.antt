@@ -1,33 +1,31 @@
 -- The walk from the beginning of the derivation to its end, and the answer that it comes to.
 use Prim.Native.Nat.{ℕ, _≤_, _<_, _^_}
-use mathlib.Core.Path.{_≡_, sym, ap, subst, _∙_}
-use mathlib.Core.Bool.{Bool, true, false, _&&_}
-use mathlib.Core.List.{List, [], _∷_}
+use mathlib.Core.Path.{_≡_, refl, sym, ap, subst, _∙_}
+use mathlib.Core.Bool.{Bool, true, false}
+use mathlib.Core.List.{List, []}
 use native.Mathlib.Omega.{arith}
-use lib.Dec.{leb}
 use lib.IntN.{ℤ}
-use lib.ListN.{length, drop, take}
-use borrow.Author.Tests.{le-leb}
-use Rattle.numbers.specs.Result.{Result, stop, _>>=_, need, because}
+use lib.ListN.{length}
+use Rattle.numbers.specs.Result.{stop, _>>=_, need, because}
 use Rattle.forms.specs.declared.Loops.{Loops}
-use Rattle.forms.specs.Code.{loop, loops, Turning}
-use Rattle.kernel.specs.Reading.{array-scope, open-loops}
+use Rattle.forms.specs.Code.{loops}
+use Rattle.kernel.specs.Reading.{open-loops}
 use Rattle.kernel.specs.Ledger as L
 use Rattle.kernel.specs.Derivation as S
 use Rattle.kernel.specs.Check as Check
 use Rattle.kernel.specs.Check.{walk-on}
 use Rattle.kernel.specs.Answers as Answers
-use Rattle.kernel.proofs.Walking.{walk-whole, walk-over, Low, walk-low}
+use Rattle.kernel.proofs.Walking.{walk-whole, Low, walk-low}
 use Rattle.parts.specs.declared.Counts.{Counts}
 use Rattle.check_ledger.specs.View.{zeros, ledger}
 use Rattle.check_ledger.proofs.Bounds.{zeros-bounded}
 use Rattle.check_ledger.proofs.Steps.{fresh-right}
 use Rattle.check_take.specs.declared.Place.{Place}
 use Rattle.parts.specs.Parts.{ReadAs}
-use Rattle.check_take.specs.View.{Taken, place, standing, Stood}
-use Rattle.parts.proofs.Parts.{K, reads, few, arrays-count, array-count, stream-count, rule-count, buffers-are}
+use Rattle.check_take.specs.View.{Taken, place, standing, taken, Stood}
+use Rattle.parts.proofs.Parts.{K, reads, few, arrays-count, rule-count, buffers-are}
 use Rattle.check_walk.specs.View.{Goes, Opens, Rests}
-use Rattle.check_walk.proofs.Walks.{goes-on, goes-nowhere, comes-over}
+use Rattle.check_walk.proofs.Walks.{goes-on, goes-nowhere, over-done, comes-over}
 use Rattle.check_file.specs.declared.Checked.the-variants.{Accepted, Refused}
 use Rattle.check_file.specs.View.{answer, refusal-at, origin}
 
@@ -37,30 +35,41 @@ pub no-loops : (ls : Loops) → loops ls ≡ [] → S.loops [] ≡ loops ls
 unfolding S.loops
 no-loops ls o = sym o
 
-module _ (file : List ℕ) (c : Counts) (e : ReadAs file c) (at : Place) (l : List ℤ) (p : at ≡ origin) (q : l ≡ zeros) where
-  pub stood : Stood c at l
-  stood = subst (λ at. Stood c at l) (sym p) (subst (Stood c origin) (sym q) (record { rules = omega arith; arrays = omega arith; streams = omega arith; bounded = zeros-bounded }))
+module _ (file : List ℕ) (c : Counts) (e : ReadAs file c) where
+  -- the check comes to what the walk that is left at r comes to
+  abbrev pub Comes : Taken → Type 0
+  Comes r = Check.check-kernel (K file c) ≡ (taken (c .a) (c .b) [] r >>= walk-on (K file c))
 
-  pub opens : (ls : Loops) → ls .count ≡ 0 → Opens file c at ls
-  unfolding open-loops
-  opens ls o = subst (λ at. Opens file c at ls) (sym p) (record { opens = []; reads-on = reads file c e .array-program; level = sym o })
+  module _ {at : Place} {l : List ℤ} (p : at ≡ origin) (q : l ≡ zeros) where
+    pub stood : Stood c at l
+    stood = subst (λ at. Stood c at l) (sym p) (subst (Stood c origin) (sym q) (record { rules = omega arith; arrays = omega arith; streams = omega arith; bounded = zeros-bounded }))
 
-  stands : place (c .a) (c .b) [] at l ≡ S.beginning (K file c)
-  unfolding S.beginning
-  stands =
-      let m : ledger (c .a) (c .b) l ≡ L.fresh (K file c) =
-      (λ i. ledger (sym (arrays-count file c) i) (sym (buffers-are file c) i) (q i))
-      ∙ fresh-right (K file c) (omega (arith, reads file c e .few-arrays)) (omega (arith, reads file c e .few-buffers)) in
-      λ i. record { rule = p i .rule; array = p i .array; stream = p i .stream; opened = []; ledger = m i }
+    pub opens : (ls : Loops) → ls .count ≡ 0 → Opens file c at ls
+    unfolding open-loops
+    opens ls o = subst (λ at. Opens file c at ls) (sym p) (record { opens = []; reads-on = reads file c e .array-program; level = sym o })
+
+    stands : place (c .a) (c .b) [] at l ≡ S.beginning (K file c)
+    unfolding S.beginning
+    stands =
+        let m : ledger (c .a) (c .b) l ≡ L.fresh (K file c) =
+        (λ i. ledger (sym (arrays-count file c) i) (sym (buffers-are file c) i) (q i))
+        ∙ fresh-right (K file c) (omega (arith, reads file c e .few-arrays)) (omega (arith, reads file c e .few-buffers)) in
+        λ i. record { rule = p i .rule; array = p i .array; stream = p i .stream; opened = []; ledger = m i }
+
+    pub comes : (r : Taken) → Goes file c [] (standing at l) [] r → Comes r
+    comes r g = walk-whole (K file c) ∙ ap (walk-on (K file c)) (sym stands) ∙ g
 
   -- ---- the end
 
-  module _ (r : Taken) (g : Goes file c [] (standing at l) [] r) where
-    walked : Check.check-kernel (K file c) ≡ walk-on (K file c) (place (c .a) (c .b) [] at l)
-    walked = walk-whole (K file c) ∙ ap (walk-on (K file c)) (sym stands)
+  pub low-end : {at : Place} {l : List ℤ} → Stood c at l → (at .rule < 2 ^ 16) × (at .array < 2 ^ 16) × (at .stream < 2 ^ 16)
+  low-end s = let m = few file c e in (omega (arith, s .rules, m .rules), omega (arith, s .rules, s .arrays, m .rules), omega (arith, s .rules, s .streams, m .rules))
 
-    refused : (r .number ≡ 0 → ⊥) → Check.check-kernel (K file c) ≡ stop (Check.refused-at (place (c .a) (c .b) [] (r .at) (r .ledger)) (r .number))
-    refused z = walked ∙ g ∙ goes-nowhere file c [] r z
+  module _ (r : Taken) (g : Comes r) where
+    abbrev there : S.Place
+    there = place (c .a) (c .b) [] (r .at) (r .ledger)
+
+    refused : (r .number ≡ 0 → ⊥) → Check.check-kernel (K file c) ≡ stop (Check.refused-at there (r .number))
+    refused z = g ∙ goes-nowhere file c [] r z
 
     pub answers-refused : (r .number ≡ 0 → ⊥) → answer (Refused (refusal-at (r .at) (r .number))) ≡ Answers.checked (Check.check-kernel (K file c))
     unfolding answer Answers.checked
@@ -76,27 +85,16 @@ module _ (file : List ℕ) (c : Counts) (e : ReadAs file c) (at : Place) (l : Li
         (omega (arith, x), omega (arith, y), omega (arith, v))
 
     module _ (z : r .number ≡ 0) (o : Rests file c false (r .at)) where
-      pub low-end : Stood c (r .at) (r .ledger) → (r .at .rule < 2 ^ 16) × (r .at .array < 2 ^ 16) × (r .at .stream < 2 ^ 16)
-      low-end s = let m = few file c e in (omega (arith, s .rules, m .rules), omega (arith, s .rules, s .arrays, m .rules), omega (arith, s .rules, s .streams, m .rules))
-
-      abbrev ending : Bool → Bool → Bool → Result ℕ (Unit {0})
-      ending a s t = do
-        _ ← need 17 (a && s)
-        _ ← need 18 true
-        need 19 t
-
-      ended : (t : Bool) → t ≡ Check.all-counted (K file c) (ledger (c .a) (c .b) (r .ledger)) → Check.check-kernel (K file c) ≡ Check.at (place (c .a) (c .b) [] (r .at) (r .ledger)) (ending true true t)
-      unfolding Check.finish Check.no-block
-      ended t k =
+      ended : {t : Bool} → t ≡ Check.all-counted (K file c) (there .ledger) → Check.check-kernel (K file c) ≡ Check.at there (need 19 t)
+      unfolding Check.no-block need _>>=_
+      ended k =
           let (d, s, u) = comes-over file c (r .at) o in
-          walked ∙ g ∙ goes-on file c [] r z
-          ∙ walk-over (K file c) (place (c .a) (c .b) [] (r .at) (r .ledger)) (omega (arith, rule-count file c, d))
-          ∙ (λ i. Check.at (place (c .a) (c .b) [] (r .at) (r .ledger)) (ending (le-leb (length (K file c .array-program)) (r .at .array) (omega (arith, array-count file c, s)) i) (le-leb (length (K file c .stream-program)) (r .at .stream) (omega (arith, stream-count file c, u)) i) (sym k i)))
+          g ∙ goes-on file c [] r z ∙ over-done file c r d [] s u refl ∙ ap (λ t. Check.at there (need 19 t)) (sym k)
 
-      pub answers-counted : true ≡ Check.all-counted (K file c) (ledger (c .a) (c .b) (r .ledger)) → answer Accepted ≡ Answers.checked (Check.check-kernel (K file c))
-      unfolding answer Answers.checked Check.at because need _>>=_
-      answers-counted k = sym (ap Answers.checked (ended true k))
+      pub answers-counted : true ≡ Check.all-counted (K file c) (there .ledger) → answer Accepted ≡ Answers.checked (Check.check-kernel (K file c))
+      unfolding answer Answers.checked Check.at because need
+      answers-counted k = sym (ap Answers.checked (ended k))
 
-      pub answers-uncounted : false ≡ Check.all-counted (K file c) (ledger (c .a) (c .b) (r .ledger)) → answer (Refused (refusal-at (r .at) 19)) ≡ Answers.checked (Check.check-kernel (K file c))
-      unfolding answer Answers.checked Check.at because need _>>=_
-      answers-uncounted k = sym (ap Answers.checked (ended false k))
+      pub answers-uncounted : false ≡ Check.all-counted (K file c) (there .ledger) → answer (Refused (refusal-at (r .at) 19)) ≡ Answers.checked (Check.check-kernel (K file c))
+      unfolding answer Answers.checked Check.at because need
+      answers-uncounted k = sym (ap Answers.checked (ended k))

@@ -5,17 +5,25 @@ use mathlib.Core.Bool.{Bool, true, false}
 use mathlib.Core.List.{List}
 use lib.IntN.{ℤ}
 use Rattle.numbers.specs.Result.{Result, ok, stop, _>>=_, need}
+use Rattle.kernel.specs.File.{Kernel}
 use Rattle.kernel.specs.Derivation as Derivation
 use Rattle.kernel.specs.Derivation.{Opened, went, rule}
 use Rattle.kernel.specs.Check as Check
 use Rattle.kernel.specs.Check.{take-rule}
 use Rattle.parts.specs.declared.Counts.{Counts}
-use Rattle.parts.proofs.Parts.{K}
+use Rattle.parts.specs.declared.Rec as Code
+use Rattle.parts.specs.Records.{rec}
+use Rattle.parts.proofs.Parts.{K, registers-are}
 use Rattle.check_ledger.specs.View.{ledger}
 use Rattle.check_rules.specs.View.{asked-there, answered, stepped, arrays-taken}
 use Rattle.check_rules.proofs.Effects.{PlainRule, need-fails, need-holds, effect-is}
 use Rattle.check_take.specs.declared.Place.{Place}
-use Rattle.check_take.specs.View.{place, rule-code, array-there, stream-there, fits-there}
+use Rattle.check_take.specs.View.{place, rule-code, array-there, stream-there, Next, fits-there}
+
+-- whether the rule of this code fits the next statements, as the code answers it wherever the derivation stands
+pub fits-next : {file : List ℕ} {c : Counts} {at : Place} {a s : Code.Rec} (code : ℕ) {t : Bool} → Next file c at a s → ((K : Kernel) (d : Derivation.Place) → K .registers ≡ c .r → t ≡ Check.fits K d (rule code) (rec a) (rec s))
+    → (d : Derivation.Place) → t ≡ fits-there file c at code d
+fits-next {file} {c} code n said d = said (K file c) d (registers-are file c) ∙ (λ i. Check.fits (K file c) d (rule code) (n .array-is i) (n .stream-is i))
 
 -- whether a test holds or not
 need-either : {A : Type 0} (number : ℕ) (t : Bool) (x : Result ℕ A) → x ≡ stop number → (need number t >>= λ _. x) ≡ stop number
@@ -45,8 +53,8 @@ module _ (file : List ℕ) (c : Counts) (os : List Opened) (at : Place) (l : Lis
   pub unfit : (code : ℕ) → rule-code file c at ≡ code → Fitting code ≡ false → Comes (stop 10)
   unfit code e f = by-code code e ∙ ap (Check.at here) (need-fails 10 _ _ f)
 
-  pub fit : (code : ℕ) → rule-code file c at ≡ code → Fitting code ≡ true → Comes (Effect code)
-  fit code e f = by-code code e ∙ ap (Check.at here) (need-holds 10 _ _ f)
+  pub fit : (code : ℕ) {x : Result ℕ Derivation.Place} → rule-code file c at ≡ code → Fitting code ≡ true → Effect code ≡ x → Comes x
+  fit code e f q = by-code code e ∙ ap (Check.at here) (need-holds 10 _ _ f ∙ q)
 
   -- refused with 10 whether it fits or not
   pub misplaced : (code : ℕ) → rule-code file c at ≡ code → Effect code ≡ stop 10 → Comes (stop 10)
@@ -59,6 +67,4 @@ module _ (file : List ℕ) (c : Counts) (os : List Opened) (at : Place) (l : Lis
     after = went 1 (arrays-taken (rule code)) 1 os (stepped (K file c) (rule code) (array-there file c at) (stream-there file c at) (ledger (c .a) (c .b) l)) here
 
     pub comes : Comes (answered number >>= λ _. ok after)
-    comes =
-        fit code e f
-        ∙ ap (Check.at here) (effect-is (K file c) here (rule code) (array-there file c at) (stream-there file c at) level ∙ ap (λ x. x >>= λ _. ok after) (sym asks))
+    comes = fit code e f (effect-is (K file c) here (rule code) (array-there file c at) (stream-there file c at) level ∙ ap (λ x. x >>= λ _. ok after) (sym asks))

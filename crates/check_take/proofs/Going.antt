@@ -2,12 +2,13 @@
 use Prim.Native.Nat.{ℕ, suc, _+_, _≤_, _<_}
 use mathlib.Core.Path.{_≡_, sym, subst}
 use mathlib.Core.Bool.{true, false≢true}
-use mathlib.Core.List.{List, _∷_}
+use mathlib.Core.List.{List, [], _∷_}
 use native.Mathlib.Omega.{arith}
 use lib.ListN.{getD, drop}
 use lib.IntN.{ℤ}
-use Rattle.numbers.proofs.Tests.{and-left}
-use Rattle.kernel.specs.File.{Rec, nothing, ifs, elses, ends}
+use Rattle.numbers.specs.Words.{between}
+use Rattle.numbers.proofs.Tests.{and-left, each-of, between-range}
+use Rattle.kernel.specs.File.{Rec, nothing, sets, copies, works, loads, stores, reads, writes, ifs, elses, ends}
 use Rattle.kernel.specs.Reading.{Scope, array-scope, Open, open-for, open-if, open-else}
 use Rattle.kernel.specs.Derivation as Derivation
 use Rattle.kernel.specs.Derivation.{Rule, same-rule, read-rule, fill-rule, use-rule, move-rule, write-rule, for-rule, if-rule, else-rule, end-rule, no-rule}
@@ -19,21 +20,28 @@ use Rattle.kernel.proofs.Sayings.{says-if, says-else, says-end, there-at}
 use Rattle.parts.specs.declared.Counts.{Counts}
 use Rattle.parts.specs.Parts.{kernel}
 use Rattle.check_ledger.specs.View.{Bounded}
+use Rattle.check_ledger.proofs.Bounds.{bounded-wider}
 use Rattle.check_rules.specs.View.{arrays-taken}
 use Rattle.check_rules.proofs.Effects.{PlainRule}
 use Rattle.check_take.specs.declared.Place.{Place}
-use Rattle.check_take.specs.View.{Taken, past, Stood, Onward, ReadsOn, array-there, stream-there}
+use Rattle.check_take.specs.declared.Reached.{Reached}
+use Rattle.check_take.specs.View.{with-ledger, further, AtRule, Onward, ReadsOn, array-there, stream-there}
 use Rattle.check_take.proofs.Comes.{Fitting}
-use Rattle.check_take.proofs.Statements.{passing}
 
 -- ---- where the derivation stands
 
-pub onward : (c : Counts) (at : Place) (l : List ℤ) (r : Taken) (arrays : ℕ) (m : List ℤ) → arrays ≤ 1 → Stood c at l → at .rule < c .d → Bounded (at .rule + 1) m → r ≡ past at arrays m → Onward c at r
-onward c at l r arrays m few s h b e =
-    subst (Onward c at) (sym e) (record {
-      stood = record { rules = omega arith; arrays = omega (arith, s .arrays); streams = omega (arith, s .streams); bounded = b };
-      further-on = omega arith;
-    })
+module _ {file : List ℕ} {c : Counts} {at : Place} {l : List ℤ} (there : AtRule file c at l) {m : List ℤ} {r : Reached} where
+  pub onward : {arrays : ℕ} → arrays ≤ 1 → Bounded (at .rule + 1) m → r ≡ record { number = 0; at = further at arrays } → Onward c at (with-ledger r m)
+  onward few b e =
+      let s = there .stood in
+      subst (λ r. Onward c at (with-ledger r m)) (sym e) (record {
+        stood = record { rules = omega (arith, there .there); arrays = omega (arith, s .arrays); streams = omega (arith, s .streams); bounded = b };
+        further-on = omega arith;
+      })
+
+  -- a statement of each program, and no position moved
+  pub onward-one : Bounded (at .rule) m → r ≡ record { number = 0; at = further at 1 } → Onward c at (with-ledger r m)
+  onward-one b e = onward (omega arith) (bounded-wider b (omega arith)) e
 
 pub one-at-most : (r : Rule) → arrays-taken r ≤ 1
 unfolding arrays-taken
@@ -77,6 +85,11 @@ module _ (file : List ℕ) (c : Counts) (at : Place) (opens : List Open) (n : Re
   one-on : (1 ≤ A .code) × (A .code < 8) → After 1
   one-on h = plain-reads (array-scope (kernel file c)) (kernel file c .array-program) opens (at .array) h n
 
+  coded : (m n : ℕ) → (1 ≤ m) × (m < 8) → Check.codes m n A S ≡ true → After 1
+  coded m n (low, high) h =
+      let (is, _) = codes-say m n A S h in
+      one-on (omega (arith, is, low), omega (arith, is, high))
+
   none-on : After 0
   none-on =
       let e : at .array ≡ at .array + 0 = omega arith in
@@ -84,12 +97,14 @@ module _ (file : List ℕ) (c : Counts) (at : Place) (opens : List Open) (n : Re
 
   pub rule-reads : (r : Rule) → PlainRule r → Check.fits (kernel file c) d r A S ≡ true → After (arrays-taken r)
   unfolding arrays-taken Check.fits
-  rule-reads same-rule l h = one-on (passing (kernel file c) d same-rule A S h)
-  rule-reads read-rule l h = one-on (passing (kernel file c) d read-rule A S h)
+  rule-reads same-rule l h =
+      let (low, high) = between-range sets works (A .code) (and-left (between sets works (A .code)) (Check.identical A S) h) in
+      one-on (low, omega (arith, high))
+  rule-reads read-rule l h = coded loads reads (omega arith, omega arith) (and-left (Check.codes loads reads A S) (Check.same-pq A S) h)
   rule-reads fill-rule l h = none-on
-  rule-reads use-rule l h = one-on (passing (kernel file c) d use-rule A S h)
+  rule-reads use-rule l h = coded loads copies (omega arith, omega arith) (each-of (Check.codes loads copies A S) (Check.same-p A S ∷ Check.is-buffer (kernel file c) (S .q) ∷ []) h 0)
   rule-reads move-rule l h = none-on
-  rule-reads write-rule l h = one-on (passing (kernel file c) d write-rule A S h)
+  rule-reads write-rule l h = coded stores writes (omega arith, omega arith) (and-left (Check.codes stores writes A S) (Check.same-pq A S) h)
   rule-reads for-rule l h = absurd l
   rule-reads if-rule l h = absurd l
   rule-reads else-rule l h = absurd l
@@ -122,9 +137,9 @@ module _ (file : List ℕ) (c : Counts) (os : List Derivation.Opened) (at : Plac
   abbrev rs : List Rec
   rs = kernel file c .array-program
 
-  module _ (m : List ℤ) (r : Taken) (e : r ≡ past at 1 m) where
+  module _ {r : Reached} (e : r ≡ record { number = 0; at = further at 1 }) where
     after-it : (opens : List Open) → Nested scope opens (drop (suc (at .array)) rs) → ReadsOn file c opens (r .at)
-    after-it opens n = subst (λ (r : Taken). ReadsOn file c opens (r .at)) (sym e) (one-further scope rs (at .array) n)
+    after-it opens n = subst (λ (r : Reached). ReadsOn file c opens (r .at)) (sym e) (one-further scope rs (at .array) n)
 
     pub if-reads : Fitting file c os at l 8 ≡ true → (opens : List Open) → ReadsOn file c opens at → ReadsOn file c (open-if ∷ opens) (r .at)
     if-reads h opens n = after-it (open-if ∷ opens) (read-if scope rs (at .array) n (says-if a (if-code h)) .2)

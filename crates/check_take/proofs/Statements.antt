@@ -8,13 +8,12 @@ use native.Mathlib.Omega.{arith}
 use lib.Dec.{eqb}
 use lib.ListN.{length, getD}
 use borrow.Author.Tests.{eqb-true}
-use Rattle.numbers.specs.Words.{between}
-use Rattle.numbers.proofs.Tests.{and-left, and-right, each-of, between-range}
-use Rattle.kernel.specs.File.{Rec, nothing, Kernel, sets, copies, works, loads, stores, reads, writes, Statement, statement}
+use Rattle.numbers.proofs.Tests.{and-left, and-right, each-of}
+use Rattle.kernel.specs.File.{Rec, nothing, copies, loads, stores, reads, writes, Statement, statement}
 use Rattle.kernel.specs.Reading.{Scope, array-scope, stream-scope}
 use Rattle.kernel.specs.Derivation as Derivation
 use Rattle.kernel.specs.Derivation.{Rule, same-rule, read-rule, fill-rule, use-rule, move-rule, write-rule, for-rule, if-rule, else-rule, end-rule, no-rule, rule}
-use Rattle.kernel.specs.Check.{codes, same-p, same-pq, identical, is-buffer, fits}
+use Rattle.kernel.specs.Check.{codes, same-p, same-pq, is-buffer, fits}
 use Rattle.kernel.specs.Guarantees.{StatementFits, Nested}
 use Rattle.kernel.proofs.Fitting.{codes-say, buffer-says}
 use Rattle.kernel.proofs.Sayings.{says-copy, says-load, says-store, says-read, fits-at, there-at}
@@ -109,39 +108,3 @@ module _ (file : List ℕ) (c : Counts) (e : ReadAs file c) (at : Place) (d : De
   -- the same of the code's records
   pub named-next : (r : Rule) → PlainRule r → fits (K file c) d r a s ≡ true → (p q : Code.Rec) → Next file c at p q → Named c r (rec p) (rec q)
   named-next r l h p q n = subst (λ x. Named c r x (rec q)) (sym (n .array-is)) (subst (Named c r a) (sym (n .stream-is)) (named r l h))
-
--- the array statement that it takes, if it takes one, holds no block
-abbrev pub Passing : Rule → (a : Rec) → Type 0
-Passing same-rule a = (1 ≤ a .code) × (a .code < 8)
-Passing read-rule a = (1 ≤ a .code) × (a .code < 8)
-Passing fill-rule a = Unit
-Passing use-rule a = (1 ≤ a .code) × (a .code < 8)
-Passing move-rule a = Unit
-Passing write-rule a = (1 ≤ a .code) × (a .code < 8)
-Passing for-rule a = Unit
-Passing if-rule a = Unit
-Passing else-rule a = Unit
-Passing end-rule a = Unit
-Passing no-rule a = Unit
-
-pub passing : (K : Kernel) (d : Derivation.Place) (r : Rule) (a s : Rec) → fits K d r a s ≡ true → Passing r a
-unfolding fits
-passing K d same-rule a s h =
-    let (x, y) = between-range sets works (a .code) (and-left (between sets works (a .code)) (identical a s) h) in
-    (x, omega (arith, y))
-passing K d read-rule a s h =
-    let (x, y) = codes-say loads reads a s (and-left (codes loads reads a s) (same-pq a s) h) in
-    (omega (arith, x), omega (arith, x))
-passing K d fill-rule a s h = tt
-passing K d use-rule a s h =
-    let (x, y) = codes-say loads copies a s (each-of (codes loads copies a s) (same-p a s ∷ is-buffer K (s .q) ∷ []) h 0) in
-    (omega (arith, x), omega (arith, x))
-passing K d move-rule a s h = tt
-passing K d write-rule a s h =
-    let (x, y) = codes-say stores writes a s (and-left (codes stores writes a s) (same-pq a s) h) in
-    (omega (arith, x), omega (arith, x))
-passing K d for-rule a s h = tt
-passing K d if-rule a s h = tt
-passing K d else-rule a s h = tt
-passing K d end-rule a s h = tt
-passing K d no-rule a s h = tt

@@ -1,15 +1,15 @@
 -- How the code takes the rule at a place: refused with 10 where it does not fit or does not close the innermost block, else by its effect.
 use Prim.Native.Nat.{ℕ}
 use mathlib.Core.Path.{_≡_, refl, sym, ap, _∙_}
-use mathlib.Core.Bool.{Bool, true, false, cond, _&&_, _||_}
+use mathlib.Core.Bool.{Bool, true, false, cond, not, _&&_, _||_, false≢true}
 use mathlib.Core.Logic.{_⊎_, inl, inr}
 use mathlib.Core.List.{List, [], _∷_, _++_}
 use native.Mathlib.Omega.{arith}
 use lib.Dec.{eqb}
 use lib.ListN.{length}
-use borrow.Author.Tests.{eqb-true, eq-eqb, ne-eqb}
+use borrow.Author.Tests.{eqb-true, eq-eqb}
 use lib.IntN.{ℤ}
-use Rattle.numbers.specs.Result.{ok, stop, _>>=_, need, because}
+use Rattle.numbers.specs.Result.{Result, ok, stop, _>>=_, need, because}
 use Rattle.numbers.proofs.Tests.{and-left, and-right, or-cases}
 use Rattle.forms.specs.Form as F
 use Rattle.kernel.specs.Ledger as L
@@ -19,15 +19,17 @@ use Rattle.kernel.specs.Check as Check
 use Rattle.kernel.specs.Check.{refused-at}
 use Rattle.parts.specs.declared.Counts.{Counts}
 use Rattle.check_ledger.specs.View.{ledger}
+use Rattle.check_rules.proofs.Fitting.{refused, passed}
 use Rattle.check_take.specs.declared.Place.{Place}
-use Rattle.check_take.specs.View.{Taken, place, taken, refusal, past, rule-code, TakesRule, Closing}
+use Rattle.check_take.specs.declared.Reached.{Reached}
+use Rattle.check_take.specs.View.{place, taken, with-ledger, further, rule-code, fits-there, TakesRule, Closing}
 use Rattle.check_take.proofs.Comes.{here, Fitting, Effect, Comes, unfit, fit, misplaced}
 
 -- ---- what the code answers
 
 -- a refusal is no answer 0
-pub refuses : {A : Type 0} (at : Place) (l : List ℤ) (r : Taken) (number : ℕ) → (number ≡ 0 → ⊥) → r ≡ refusal at l number → r .number ≡ 0 → A
-refuses at l r number z e h = absurd (z (sym (ap (λ (r : Taken). r .number) e) ∙ h))
+pub refuses : {A : Type 0} {at : Place} {r : Reached} {number : ℕ} → eqb number 0 ≡ false → r ≡ record { number = number; at = at } → r .number ≡ 0 → A
+refuses {number} z e h = absurd (false≢true (sym z ∙ eq-eqb number 0 (sym (ap (λ (r : Reached). r .number) e) ∙ h)))
 
 -- an else or an end, by its code; it is no for
 pub closing : (code : ℕ) → eqb code 9 || eqb code 10 ≡ true → Closing code
@@ -51,47 +53,48 @@ and-holds {t} {u} e f = f ∙ sym (ap (λ t. t && u) e)
 -- ---- the code takes it so
 
 module _ (file : List ℕ) (c : Counts) (os : List Opened) (at : Place) (l : List ℤ) where
-  module _ (os′ : List Opened) (r : Taken) where
+  module _ (os′ : List Opened) (m : List ℤ) {r : Reached} where
     -- whatever the ledger is then
-    pub stopped : {m : List ℤ} (number : ℕ) → (number ≡ 0 → ⊥) → r ≡ refusal at m number → Comes file c os at l (stop number) → TakesRule file c os at l os′ r
+    pub stopped : {number : ℕ} → eqb number 0 ≡ false → r ≡ record { number = number; at = at } → Comes file c os at l (stop number) → TakesRule file c os at l os′ (with-ledger r m)
     unfolding taken Check.at because
-    stopped {m} number z e t =
-        ap (taken (c .a) (c .b) os′) e
-        ∙ ap (λ (b : Bool). cond b (ok (place (c .a) (c .b) os′ at m)) (stop (refused-at (place (c .a) (c .b) os′ at m) number))) (ne-eqb number 0 z)
+    stopped {number} z e t =
+        ap (λ r. taken (c .a) (c .b) os′ (with-ledger r m)) e
+        ∙ ap (λ (b : Bool). cond b (ok (place (c .a) (c .b) os′ at m)) (stop (refused-at (place (c .a) (c .b) os′ at m) number))) z
         ∙ sym t
 
-    pub went-on : (arrays : ℕ) (m : List ℤ) (M : L.Ledger) → r ≡ past at arrays m → ledger (c .a) (c .b) m ≡ M
-        → Comes file c os at l (ok (went 1 arrays 1 os′ M (here file c os at l))) → TakesRule file c os at l os′ r
+    pub went-on : (arrays : ℕ) {M : L.Ledger} → r ≡ record { number = 0; at = further at arrays } → ledger (c .a) (c .b) m ≡ M
+        → Comes file c os at l (ok (went 1 arrays 1 os′ M (here file c os at l))) → TakesRule file c os at l os′ (with-ledger r m)
     unfolding taken Check.at because went
-    went-on arrays m M e f t =
-        ap (taken (c .a) (c .b) os′) e
-        ∙ ap (λ M. ok (record { rule = past at arrays m .at .rule; array = past at arrays m .at .array; stream = past at arrays m .at .stream; opened = os′; ledger = M })) f
+    went-on arrays e f t =
+        ap (λ r. taken (c .a) (c .b) os′ (with-ledger r m)) e
+        ∙ ap (λ M. ok (record { rule = further at arrays .rule; array = further at arrays .array; stream = further at arrays .stream; opened = os′; ledger = M })) f
         ∙ sym t
 
   -- ---- an else or an end
 
-  abbrev pub Closed : ℕ → Bool
-  Closed code = eqb (rule-code file c at) code && Fitting file c os at l code
+  -- whether it is the rule of this code and fits, as the code answers it wherever the derivation stands
+  abbrev pub Said : ℕ → Bool → Type 0
+  Said code t = (d : Derivation.Place) → t ≡ (eqb (rule-code file c at) code && fits-there file c at code d)
 
-  closed-code : (code : ℕ) → Closed code ≡ true → rule-code file c at ≡ code
-  closed-code code h = eqb-true (rule-code file c at) code (and-left _ (Fitting file c os at l code) h)
+  closed : (code : ℕ) {t : Bool} → Said code t → not t ≡ false → eqb (rule-code file c at) code && Fitting file c os at l code ≡ true
+  closed code s p = passed (s (here file c os at l)) p
 
-  pub closed-fits : (code : ℕ) → Closed code ≡ true → Fitting file c os at l code ≡ true
-  closed-fits code h = and-right (eqb (rule-code file c at) code) (Fitting file c os at l code) h
+  pub closed-fits : (code : ℕ) {t : Bool} → Said code t → not t ≡ false → Fitting file c os at l code ≡ true
+  closed-fits code s p = and-right (eqb (rule-code file c at) code) (Fitting file c os at l code) (closed code s p)
 
-  pub closes : (code : ℕ) → Closed code ≡ true → Comes file c os at l (Effect file c os at l code)
-  closes code h = fit file c os at l code (closed-code code h) (closed-fits code h)
+  pub closes : (code : ℕ) {t : Bool} {x : Result ℕ Derivation.Place} → Said code t → not t ≡ false → Effect file c os at l code ≡ x → Comes file c os at l x
+  closes code s p = fit file c os at l code (eqb-true (rule-code file c at) code (and-left _ (Fitting file c os at l code) (closed code s p))) (closed-fits code s p)
 
-  not-closed : (code : ℕ) → rule-code file c at ≡ code → Closed code ≡ false → Comes file c os at l (stop 10)
-  not-closed code e h = unfit file c os at l code e (sym (ap (λ t. t && Fitting file c os at l code) (eq-eqb (rule-code file c at) code e)) ∙ h)
+  not-closed : (code : ℕ) {t : Bool} → rule-code file c at ≡ code → Said code t → not t ≡ true → Comes file c os at l (stop 10)
+  not-closed code e s p = unfit file c os at l code e (sym (ap (λ t. t && Fitting file c os at l code) (eq-eqb (rule-code file c at) code e)) ∙ refused (s (here file c os at l)) p)
 
-  pub not-else : Closing (rule-code file c at) → Effect file c os at l 10 ≡ stop 10 → Closed 9 ≡ false → Comes file c os at l (stop 10)
-  not-else (inl e) f h = not-closed 9 e h
-  not-else (inr e) f h = misplaced file c os at l 10 e f
+  pub not-else : {t : Bool} → Closing (rule-code file c at) → Effect file c os at l 10 ≡ stop 10 → Said 9 t → not t ≡ true → Comes file c os at l (stop 10)
+  not-else (inl e) f s p = not-closed 9 e s p
+  not-else (inr e) f s p = misplaced file c os at l 10 e f
 
-  pub not-end : Closing (rule-code file c at) → Effect file c os at l 9 ≡ stop 10 → Closed 10 ≡ false → Comes file c os at l (stop 10)
-  not-end (inl e) f h = misplaced file c os at l 9 e f
-  not-end (inr e) f h = not-closed 10 e h
+  pub not-end : {t : Bool} → Closing (rule-code file c at) → Effect file c os at l 9 ≡ stop 10 → Said 10 t → not t ≡ true → Comes file c os at l (stop 10)
+  not-end (inl e) f s p = misplaced file c os at l 9 e f
+  not-end (inr e) f s p = not-closed 10 e s p
 
 -- ---- by the innermost block
 

@@ -60,9 +60,6 @@ refusal at l number = record { number = number; at = at; ledger = l }
 abbrev pub further : Place → (arrays : ℕ) → Place
 further at arrays = record { rule = at .rule + 1; array = at .array + arrays; stream = at .stream + 1 }
 
-abbrev pub past : Place → (arrays : ℕ) → List ℤ → Taken
-past at arrays l = record { number = 0; at = further at arrays; ledger = l }
-
 -- no more rules are taken than there are, no more statements than rules, and the forms are as small as so many rules leave them
 pub record Stood (c : Counts) (at : Place) (l : List ℤ) : Type 0 where
   pub rules : at .rule ≤ c .d
@@ -151,7 +148,8 @@ pub record Onward (c : Counts) (at : Place) (r : Taken) : Type 0 where
 pub record Refuses (file : List ℕ) (c : Counts) (l : List ℤ) (around : List Loop) (code : ℕ) (a s : Code.Rec) (number : ℕ) : Type 0 where
   pub as-defined : (os : List Opened) (at : Place) → loops os ≡ around → code ≡ rule-code file c at → Next file c at a s
       → take-rule (kernel file c) (place (c .a) (c .b) os at l)
-      ≡ Check.at (place (c .a) (c .b) os at l) (answered number >>= λ _. ok (went 1 (arrays-taken (rule code)) 1 os (stepped (kernel file c) (rule code) (rec a) (rec s) (ledger (c .a) (c .b) l)) (place (c .a) (c .b) os at l)))
+      ≡ Check.at (place (c .a) (c .b) os at l)
+      (answered number >>= λ _. ok (went 1 (arrays-taken (rule code)) 1 os (stepped (kernel file c) (rule code) (rec a) (rec s) (ledger (c .a) (c .b) l)) (place (c .a) (c .b) os at l)))
   pub named : number ≡ 0 → Named c (rule code) (rec a) (rec s)
   pub reads-on : number ≡ 0 → (at : Place) → Next file c at a s → (opens : List Open) → ReadsOn file c opens at → ReadsOn file c opens (further at (arrays-taken (rule code)))
 

@@ -20,7 +20,7 @@ ghost use Rattle.check_ledger.specs.View.{Bounded};
 ghost use Rattle.check_rows.specs.Changes.{Stated};
 ghost use Rattle.check_rules.specs.View.{Named};
 ghost use Rattle.check_take.specs.View as View;
-ghost use Rattle.check_take.specs.View.{rule-code, array-there, stream-there, fits-there, with-ledger, Next, AtRule, Closing, Plain};
+ghost use Rattle.check_take.specs.View.{rule-code, array-there, stream-there, fits-there, with-ledger, AtRule, Closing, Plain};
 
 // The next record of each section that no rule has taken.
 pub struct Place {

@@ -1,12 +1,12 @@
 -- How the walk goes on: a rule that is taken, one stretch after another, and where a block stops.
 use Prim.Native.Nat.{ℕ, _≤_, _<_}
 use mathlib.Core.Path.{_≡_, refl, sym, ap, subst, _∙_}
-use mathlib.Core.Bool.{Bool, true, false, cond, _&&_}
+use mathlib.Core.Bool.{Bool, true, false, cond, not, _&&_}
 use mathlib.Core.Logic.{inl, inr}
 use mathlib.Core.List.{List, []}
 use lib.IntN.{ℤ}
 use native.Mathlib.Omega.{arith}
-use lib.Dec.{leb}
+use lib.Dec.{eqb, leb}
 use lib.ListN.{length}
 use borrow.Author.Tests.{eq-eqb, ne-eqb, lt-leb, le-leb}
 use Rattle.numbers.specs.Result.{Result, ok, stop, _>>=_, need, because}
@@ -19,7 +19,10 @@ use Rattle.kernel.proofs.Walking.{walk-over, walk-take, none-open}
 use Rattle.parts.specs.declared.Counts.{Counts}
 use Rattle.parts.specs.Parts.{kernel}
 use Rattle.check_take.specs.declared.Place.{Place as At}
-use Rattle.check_take.specs.View.{Taken, place, standing, taken, refusal, rule-code, TakesRule, Closing}
+use Rattle.check_take.specs.declared.Reached.{Reached}
+use Rattle.check_take.specs.View.{Taken, place, standing, taken, with-ledger, refusal, rule-code, TakesRule, Closing}
+use Rattle.check_take.proofs.Comes.{misplaced}
+use Rattle.check_take.proofs.Taking.{refuses}
 use Rattle.parts.proofs.Parts.{array-count, stream-count, rule-count}
 use Rattle.check_walk.specs.View.{Goes, Rests, Stops}
 
@@ -66,55 +69,66 @@ module _ (file : List ℕ) (c : Counts) where
 
   -- ---- where a block stops
 
-  module _ (os : List Opened) (w r : Taken) where
-    refused-goes : (number : ℕ) → (number ≡ 0 → ⊥) → r ≡ refusal (w .at) (w .ledger) number → walk-on K (at-place os w) ≡ stop (refused-at (at-place os w) number) → Goes file c os w os r
-    refused-goes number z e g = g ∙ sym (ap (λ r. taken (c .a) (c .b) os r >>= walk-on K) e ∙ goes-nowhere os (refusal (w .at) (w .ledger) number) z)
+  -- how much of the programs is left
+  arrays-left : (at : At) → at .array < c .s → leb (length (K .array-program)) (at .array) ≡ false
+  arrays-left at h = lt-leb (length (K .array-program)) (at .array) (omega (arith, h, array-count file c))
 
-    -- the derivation is over
+  arrays-done : (at : At) → c .s ≤ at .array → leb (length (K .array-program)) (at .array) ≡ true
+  arrays-done at h = le-leb (length (K .array-program)) (at .array) (omega (arith, h, array-count file c))
+
+  streams-left : (at : At) → at .stream < c .t → leb (length (K .stream-program)) (at .stream) ≡ false
+  streams-left at h = lt-leb (length (K .stream-program)) (at .stream) (omega (arith, h, stream-count file c))
+
+  streams-done : (at : At) → c .t ≤ at .stream → leb (length (K .stream-program)) (at .stream) ≡ true
+  streams-done at h = le-leb (length (K .stream-program)) (at .stream) (omega (arith, h, stream-count file c))
+
+  -- the derivation is over
+  module _ (w : Taken) (h : c .d ≤ w .at .rule) (os : List Opened) where
+    abbrev pub ending : Bool → Bool → Bool → Result ℕ (Unit {0})
+    ending a s o = do
+      _ ← need 17 (a && s)
+      _ ← need 18 o
+      need 19 (Check.all-counted K (at-place os w .ledger))
+
+    over-with : {a s o : Bool} → leb (length (K .array-program)) (w .at .array) ≡ a → leb (length (K .stream-program)) (w .at .stream) ≡ s → no-block os ≡ o
+        → walk-on K (at-place os w) ≡ Check.at (at-place os w) (ending a s o)
+    unfolding finish
+    over-with e f g = walk-over K (at-place os w) (omega (arith, h, rule-count file c)) ∙ (λ i. Check.at (at-place os w) (ending (e i) (f i) (g i)))
+
+    pub over-done : {o : Bool} → c .s ≤ w .at .array → c .t ≤ w .at .stream → no-block os ≡ o → walk-on K (at-place os w) ≡ Check.at (at-place os w) (ending true true o)
+    over-done k l o = over-with (arrays-done (w .at) k) (streams-done (w .at) l) o
+
+  -- an else or an end where no block is open
+  stray-takes : (w : Taken) → Closing (rule-code file c (w .at)) → Check.take-rule K (at-place [] w) ≡ stop (refused-at (at-place [] w) 10)
+  unfolding Check.effect Check.at-else Check.at-end Check.at because S.rule
+  stray-takes w (inl e) = misplaced file c [] (w .at) (w .ledger) 9 e refl
+  stray-takes w (inr e) = misplaced file c [] (w .at) (w .ledger) 10 e refl
+
+  module _ (inside : Bool) (w : Taken) {r : Reached} where
+    stops-with : {number : ℕ} → eqb number 0 ≡ false → r ≡ record { number = number; at = w .at } → ((os : List Opened) → no-block os ≡ not inside → walk-on K (at-place os w) ≡ stop (refused-at (at-place os w) number)) → Stops file c inside w (with-ledger r (w .ledger))
+    stops-with {number} z e g =
+        ((λ os o. g os o ∙ sym (ap (λ r. taken (c .a) (c .b) os (with-ledger r (w .ledger)) >>= walk-on K) e ∙ goes-nowhere os (refusal (w .at) (w .ledger) number) (refuses {at = w .at} z refl))), refuses z e)
+
     module _ (h : c .d ≤ w .at .rule) where
-      over-is : walk-on K (at-place os w) ≡ finish K (at-place os w)
-      over-is = walk-over K (at-place os w) (omega (arith, h, rule-count file c))
-
-      abbrev ending : Bool → Bool → Bool → Result ℕ (Unit {0})
-      ending a s o = do
-        _ ← need 17 (a && s)
-        _ ← need 18 o
-        need 19 (Check.all-counted K (at-place os w .ledger))
-
-      finish-is : (a s o : Bool) → leb (length (K .array-program)) (w .at .array) ≡ a → leb (length (K .stream-program)) (w .at .stream) ≡ s → no-block os ≡ o
-          → finish K (at-place os w) ≡ Check.at (at-place os w) (ending a s o)
-      unfolding finish
-      finish-is a s o e f g = λ i. Check.at (at-place os w) (ending (e i) (f i) (g i))
-
-      pub over-array : w .at .array < c .s → r ≡ refusal (w .at) (w .ledger) 17 → Goes file c os w os r
+      pub over-array : w .at .array < c .s → r ≡ record { number = 17; at = w .at } → Stops file c inside w (with-ledger r (w .ledger))
       unfolding Check.at because need _>>=_
-      over-array l e = refused-goes 17 (λ z. omega (arith, z)) e (over-is ∙ finish-is false (leb (length (K .stream-program)) (w .at .stream)) (no-block os) (lt-leb (length (K .array-program)) (w .at .array) (omega (arith, l, array-count file c))) refl refl)
+      over-array l e = stops-with refl e (λ os o. over-with w h os (arrays-left (w .at) l) refl refl)
 
-      pub over-stream : c .s ≤ w .at .array → w .at .stream < c .t → r ≡ refusal (w .at) (w .ledger) 17 → Goes file c os w os r
+      pub over-stream : c .s ≤ w .at .array → w .at .stream < c .t → r ≡ record { number = 17; at = w .at } → Stops file c inside w (with-ledger r (w .ledger))
       unfolding Check.at because need _>>=_
-      over-stream k l e = refused-goes 17 (λ z. omega (arith, z)) e (over-is ∙ finish-is true false (no-block os) (le-leb (length (K .array-program)) (w .at .array) (omega (arith, k, array-count file c))) (lt-leb (length (K .stream-program)) (w .at .stream) (omega (arith, l, stream-count file c))) refl)
+      over-stream k l e = stops-with refl e (λ os o. over-with w h os (arrays-done (w .at) k) (streams-left (w .at) l) refl)
 
-      pub over-block : c .s ≤ w .at .array → c .t ≤ w .at .stream → no-block os ≡ false → r ≡ refusal (w .at) (w .ledger) 18 → Goes file c os w os r
+      pub over-block : c .s ≤ w .at .array → c .t ≤ w .at .stream → inside ≡ true → r ≡ record { number = 18; at = w .at } → Stops file c inside w (with-ledger r (w .ledger))
       unfolding Check.at because need _>>=_
-      over-block k l o e = refused-goes 18 (λ z. omega (arith, z)) e (over-is ∙ finish-is true true false (le-leb (length (K .array-program)) (w .at .array) (omega (arith, k, array-count file c))) (le-leb (length (K .stream-program)) (w .at .stream) (omega (arith, l, stream-count file c))) o)
+      over-block k l b e = stops-with refl e (λ os o. over-done w h os k l (o ∙ ap not b))
 
-    -- an else or an end where no block is open
-    stray-either : (t : Bool) → Check.at {A = Place} (at-place [] w) (need 10 t >>= λ u. stop 10) ≡ stop (refused-at (at-place [] w) 10)
-    unfolding Check.at because need _>>=_
-    stray-either true = refl
-    stray-either false = refl
-
-    stray-takes : Closing (rule-code file c (w .at)) → Check.take-rule K (at-place [] w) ≡ stop (refused-at (at-place [] w) 10)
-    unfolding Check.take-rule Check.follow Check.effect Check.at-else Check.at-end Check.at because need _>>=_ S.rule S.next-rule
-    stray-takes (inl e) = ap (λ code. Check.at (at-place [] w) (Check.follow K (at-place [] w) (S.rule code) (S.next-array K (at-place [] w)) (S.next-stream K (at-place [] w)))) e ∙ stray-either (Check.fits K (at-place [] w) S.else-rule (S.next-array K (at-place [] w)) (S.next-stream K (at-place [] w)))
-    stray-takes (inr e) = ap (λ code. Check.at (at-place [] w) (Check.follow K (at-place [] w) (S.rule code) (S.next-array K (at-place [] w)) (S.next-stream K (at-place [] w)))) e ∙ stray-either (Check.fits K (at-place [] w) S.end-rule (S.next-array K (at-place [] w)) (S.next-stream K (at-place [] w)))
-
-    pub stray : w .at .rule < c .d → Closing (rule-code file c (w .at)) → no-block os ≡ true → r ≡ refusal (w .at) (w .ledger) 10 → Goes file c os w os r
+    pub stray : w .at .rule < c .d → Closing (rule-code file c (w .at)) → not inside ≡ true → r ≡ record { number = 10; at = w .at } → Stops file c inside w (with-ledger r (w .ledger))
     unfolding _>>=_
-    stray h k o e = refused-goes 10 (λ z. omega (arith, z)) e
-        (ap (λ os. walk-on K (at-place os w)) (none-open os o)
+    stray h k b e = stops-with refl e (λ os o.
+        ap (λ os. walk-on K (at-place os w)) (none-open os (o ∙ b))
         ∙ walk-take K (at-place [] w) (omega (arith, h, rule-count file c))
-        ∙ ap (λ x. x >>= walk-on K) (stray-takes k))
+        ∙ ap (λ x. x >>= walk-on K) (stray-takes w k)
+        ∙ ap (λ os. stop (refused-at (at-place os w) 10)) (sym (none-open os (o ∙ b))))
 
   -- the code's flag says whether a block is open
   pub rests-over : (inside : Bool) (at : At) → inside ≡ false → c .d ≤ at .rule → c .s ≤ at .array → c .t ≤ at .stream → Rests file c inside at
@@ -134,6 +148,6 @@ module _ (file : List ℕ) (c : Counts) where
   comes-over at h = h
 
   -- a block that stops just where it stands
-  pub stands : (inside : Bool) (at : At) (l : List ℤ) (r : Taken) → r ≡ standing at l → Rests file c inside at → Stops file c inside (standing at l) r
-  stands inside at l r e s =
-      ((λ os o. subst (Goes file c os (standing at l) os) (sym e) (goes-none os (standing at l) refl)), λ z. (e, subst (λ (r : Taken). Rests file c inside (r .at)) (sym e) s))
+  pub stands : (inside : Bool) (at : At) (l : List ℤ) {r : Reached} → r ≡ record { number = 0; at = at } → Rests file c inside at → Stops file c inside (standing at l) (with-ledger r l)
+  stands inside at l e s =
+      ((λ os o. subst (λ r. Goes file c os (standing at l) os (with-ledger r l)) (sym e) (goes-none os (standing at l) refl)), λ z. (ap (λ r. with-ledger r l) e, subst (λ (r : Reached). Rests file c inside (r .at)) (sym e) s))

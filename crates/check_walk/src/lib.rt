@@ -4,7 +4,6 @@ use check_take::Place;
 use check_take::Reached;
 use forms::Loops;
 use parts::Counts;
-ghost use mathlib.Core.Path.{_≡_};
 ghost use mathlib.Core.List.{List};
 ghost use Prim.Native.Nat.{ℕ, _≤_, _<_};
 ghost use lib.IntN.{ℤ};

@@ -1,5 +1,5 @@
 -- What a file that reads holds, by its counts: its parts are the kernel's sections, the counts their lengths, and they lie in it.
-use Prim.Native.Nat.{ℕ, _+_, _*_, _/_}
+use Prim.Native.Nat.{ℕ}
 use mathlib.Core.Path.{_≡_, refl}
 use mathlib.Core.List.{List}
 use native.Mathlib.Omega.{arith}

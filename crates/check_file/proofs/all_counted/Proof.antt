@@ -1,5 +1,5 @@
 -- `check_file::all_counted` meets its contract. Invariant: the test of all arrays is the test of those from j on.
-use Prim.Native.Nat.{ℕ, _-_, _≤_, _<_}
+use Prim.Native.Nat.{_-_, _<_}
 use mathlib.Core.Path.{_≡_, refl, sym, ap, _∙_}
 use mathlib.Core.List.{List, []}
 use native.Mathlib.Omega.{arith}

@@ -4,18 +4,16 @@ use mathlib.Core.Bool.{false}
 use mathlib.Core.List.{List, []}
 use Prim.Native.Nat.{ℕ}
 use native.Mathlib.Omega.{arith}
-use lib.IntN.{ℤ}
 use borrow.Author.Needs.{needs}
 use borrow.Author.Tests.{not-true, not-false}
 use Rattle.kernel.specs.Check as Check
 use Rattle.parts.specs.declared.Counts.{Counts}
 use Rattle.parts.proofs.Parts.{K, arrays-are, arrays-ready}
 use Rattle.check_ledger.specs.View.{ledger}
-use Rattle.check_take.specs.declared.Place.{Place}
-use Rattle.check_take.specs.View.{Taken, standing, with-ledger, Stood}
-use Rattle.check_walk.specs.View.{Goes, Rests}
+use Rattle.check_take.specs.View.{Taken, with-ledger}
+use Rattle.check_walk.specs.View.{Rests}
 use Rattle.check_file.specs.View.{answer}
-use Rattle.check_file.proofs.Judging.{stood, opens, no-loops, answers-refused, low, low-end, answers-counted, answers-uncounted}
+use Rattle.check_file.proofs.Judging.{no-loops, Comes, stood, opens, comes, low-end, answers-refused, low, answers-counted, answers-uncounted}
 use Rattle.check_file.proofs.judged.Statement.{statement}
 use Rattle.check_file.proofs.judged.Tie as tie
 
@@ -30,24 +28,17 @@ module _ (c : tie.After-check-block) where
   abbrev counts : Counts
   counts = begun .args .c
 
-  abbrev from : Place
-  from = c .before .before .before .beginning .result
-
-  abbrev ledger-at : List ℤ
-  ledger-at = c .before .before .before .before .fresh .result
-
   abbrev to : Taken
   to = with-ledger (c .check-block .result) (c .check-block .last .1 .1 .1 .0)
 
-  walk : Goes file counts [] (standing from ledger-at) [] to
+  walk : Comes file counts (begun .pre) to
   unfolding Check.no-block
-  walk = c .check-block .ensures .0 [] (no-loops (c .before .outside .result) (c .before .outside .ensures .0)) refl
+  walk =
+      comes file counts (begun .pre) (c .before .before .before .beginning .ensures) (c .before .before .before .before .fresh .ensures) to
+      (c .check-block .ensures .0 [] (no-loops (c .before .outside .result) (c .before .outside .ensures .0)) refl)
 
   rests : to .number ≡ 0 → Rests file counts false (to .at)
   rests z = c .check-block .ensures .1 z .1
-
-  stops : to .number ≡ 0 → Stood counts (to .at) (to .ledger)
-  stops z = c .check-block .ensures .1 z .0 .stood
 
 fresh-requires : tie.Need-fresh-requires
 fresh-requires c κs = search needs
@@ -64,17 +55,17 @@ check-block-requires c κs =
     let at = c .before .before .beginning in
     let l = c .before .before .before .fresh in
     let o = c .outside in
-    (s .pre, stood (s .args .file .now) (s .args .c) (s .pre) (at .result) (l .result) (at .ensures) (l .ensures), o .ensures .2, omega (arith, o .ensures .1), opens (s .args .file .now) (s .args .c) (s .pre) (at .result) (l .result) (at .ensures) (l .ensures) (o .result) (o .ensures .1))
+    (s .pre, stood (s .args .file .now) (s .args .c) (s .pre) (at .ensures) (l .ensures), o .ensures .2, omega (arith, o .ensures .1), opens (s .args .file .now) (s .args .c) (s .pre) (at .ensures) (l .ensures) (o .result) (o .ensures .1))
 
 refused-at-requires : tie.Need-refused-at-requires
 refused-at-requires c κs =
     let b = c .before .before in
-    low (file b) (counts b) (begun b .pre) (from b) (ledger-at b) (b .before .before .before .beginning .ensures) (b .before .before .before .before .fresh .ensures) (to b) (walk b) (c .if1 .taken)
+    low (file b) (counts b) (begun b .pre) (to b) (walk b) (c .if1 .taken)
 
 returns : tie.Need-returns
 returns c =
     let b = c .before .before .before in
-    ap answer (c .refused-at .ensures) ∙ answers-refused (file b) (counts b) (begun b .pre) (from b) (ledger-at b) (b .before .before .before .beginning .ensures) (b .before .before .before .before .fresh .ensures) (to b) (walk b) (c .before .if1 .taken)
+    ap answer (c .refused-at .ensures) ∙ answers-refused (file b) (counts b) (begun b .pre) (to b) (walk b) (c .before .if1 .taken)
 
 all-counted-requires : tie.Need-all-counted-requires
 all-counted-requires c κs =
@@ -84,8 +75,7 @@ all-counted-requires c κs =
 refused-at-requires-2 : tie.Need-refused-at-requires-2
 refused-at-requires-2 c κs =
     let b = c .before .before .before .before .before in
-    let z = c .before .before .before .if1 .left in
-    low-end (file b) (counts b) (begun b .pre) (from b) (ledger-at b) (b .before .before .before .beginning .ensures) (b .before .before .before .before .fresh .ensures) (to b) (walk b) z (rests b z) (stops b z)
+    low-end (file b) (counts b) (begun b .pre) (b .check-block .ensures .1 (c .before .before .before .if1 .left) .0 .stood)
 
 returns-2 : tie.Need-returns-2
 unfolding ledger
@@ -93,7 +83,7 @@ returns-2 c =
     let b = c .before .before .before .before .before .before in
     let z = c .before .before .before .before .if1 .left in
     let k = c .before .before .all-counted .ensures (K (file b) (counts b)) (ledger (counts b .a) (counts b .b) (to b .ledger)) (arrays-are (file b) (counts b)) refl in
-    ap answer (c .refused-at2 .ensures) ∙ answers-uncounted (file b) (counts b) (begun b .pre) (from b) (ledger-at b) (b .before .before .before .beginning .ensures) (b .before .before .before .before .fresh .ensures) (to b) (walk b) z (rests b z) (sym (not-true _ (c .before .if2 .taken)) ∙ k)
+    ap answer (c .refused-at2 .ensures) ∙ answers-uncounted (file b) (counts b) (begun b .pre) (to b) (walk b) z (rests b z) (sym (not-true _ (c .before .if2 .taken)) ∙ k)
 
 returns-3 : tie.Need-returns-3
 unfolding ledger
@@ -101,7 +91,7 @@ returns-3 c =
     let b = c .before .before .before .before .before in
     let z = c .before .before .before .if1 .left in
     let k = c .before .all-counted .ensures (K (file b) (counts b)) (ledger (counts b .a) (counts b .b) (to b .ledger)) (arrays-are (file b) (counts b)) refl in
-    answers-counted (file b) (counts b) (begun b .pre) (from b) (ledger-at b) (b .before .before .before .beginning .ensures) (b .before .before .before .before .fresh .ensures) (to b) (walk b) z (rests b z) (sym (not-false _ (c .if2 .left)) ∙ k)
+    answers-counted (file b) (counts b) (begun b .pre) (to b) (walk b) z (rests b z) (sym (not-false _ (c .if2 .left)) ∙ k)
 
 pub judged-spec : {M : Type 1} → statement M
 judged-spec =

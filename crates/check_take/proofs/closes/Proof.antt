@@ -2,9 +2,9 @@
 use mathlib.Core.Path.{sym, _∙_}
 use borrow.Author.Needs.{needs}
 use borrow.Author.Tests.{eq-eqb, ne-eqb}
-use Rattle.kernel.specs.Derivation.{rule}
-use Rattle.kernel.specs.Check as Check
-use Rattle.parts.proofs.Parts.{K, few, registers-are}
+use Rattle.parts.proofs.Parts.{few}
+use Rattle.check_take.specs.View.{Next}
+use Rattle.check_take.proofs.Comes.{fits-next}
 use Rattle.check_take.proofs.Taking.{no-for, and-fails, and-holds}
 use Rattle.check_take.proofs.closes.Statement.{statement}
 use Rattle.check_take.proofs.closes.Tie as tie
@@ -30,8 +30,8 @@ returns-2 : tie.Need-returns-2
 returns-2 c d =
     let b = c .before .before .before in
     let s = b .before .before .before in
-    let k = K (s .args .file .now) (s .args .c) in
-    and-holds (eq-eqb _ _ (sym (b .before .code-next .ensures) ∙ b .if1 .left)) (c .fits2 .ensures k d (registers-are (s .args .file .now) (s .args .c)) ∙ (λ i. Check.fits k d (rule (s .args .code)) (c .before .before .array-next .ensures i) (c .before .stream-next .ensures i)))
+    let n : Next (s .args .file .now) (s .args .c) (s .args .at) _ _ = record { array-is = c .before .before .array-next .ensures; stream-is = c .before .stream-next .ensures } in
+    and-holds (eq-eqb _ _ (sym (b .before .code-next .ensures) ∙ b .if1 .left)) (fits-next (s .args .code) n (c .fits2 .ensures) d)
 
 pub closes-spec : {M : Type 1} → statement M
 closes-spec =

@@ -14,10 +14,9 @@ use Rattle.forms.specs.Code.{loops}
 use Rattle.kernel.specs.Ledger as L
 use Rattle.kernel.specs.Derivation as Derivation
 use Rattle.kernel.specs.Derivation.{Opened}
-use Rattle.kernel.specs.Check as Check
 use Rattle.parts.specs.declared.Part.{Part}
 use Rattle.parts.specs.Records.{rec}
-use Rattle.parts.specs.Parts.{kernel, records-in, Lies}
+use Rattle.parts.specs.Parts.{kernel, records-in, Lies, Few}
 use Rattle.parts.proofs.Parts.{few, fills, derivation-lies, derivation-is, arrays-count, buffers-are}
 use Rattle.check_ledger.specs.View.{ledger}
 use Rattle.check_rows.specs.View.{SmallForms}
@@ -25,7 +24,7 @@ use Rattle.check_rows.specs.Changes.{with-change, amount, Stated}
 use Rattle.check_rows.proofs.Stating.{zeros-stated}
 use Rattle.check_rules.proofs.Fitting.{refused, passed}
 use Rattle.check_rules.proofs.Effects.{need-fails, need-holds}
-use Rattle.check_take.specs.View.{place, loop-there, with-ledger}
+use Rattle.check_take.specs.View.{place, loop-there}
 use Rattle.check_take.proofs.Comes.{Fitting, unfit, fit}
 use Rattle.check_take.proofs.Taking.{refuses, stopped}
 use Rattle.check_take.proofs.Entering.{loops-count, deep, deep-loops, small-forms, first-as, tests, for-enters, went-in, rows-there, loop-fits, for-onward, enters}
@@ -52,6 +51,9 @@ module _ (s : tie.Start) where
 
   abbrev first : ℤ
   first = loop-there file (s .args .c) (s .args .at) .first
+
+  few-there : Few (s .args .c)
+  few-there = few file (s .args .c) (s .pre .0 .reads)
 
   level-of : (os : List Opened) → Derivation.loops os ≡ loops (s .args .around) → length (Derivation.loops os) ≡ s .args .around .count
   level-of os l = ap length l ∙ loops-count (s .args .around) (s .pre .1)
@@ -127,7 +129,7 @@ stream-next-requires c κs = search needs
 for-fits-requires : tie.Need-for-fits-requires
 for-fits-requires c κs =
     let s = c .before .before .before in
-    (s .pre .0 .reads, omega (arith, few (file s) (s .args .c) (s .pre .0 .reads) .rules, s .pre .0 .there), s .pre .1)
+    (s .pre .0 .reads, omega (arith, few-there s .rules, s .pre .0 .there), s .pre .1)
 
 stays-requires : tie.Need-stays-requires
 stays-requires c κs = search needs
@@ -137,18 +139,15 @@ returns c =
     let s = start (c .before .before) in
     let k = s .args .c in
     let at = s .args .at in
-    let e = ap (λ r. with-ledger r (l s)) (c .stays .ensures) in
     record {
-      as-defined = λ os o. stopped (file s) k os at (l s) _ _ 10 (λ z. omega (arith, z)) e (unfit (file s) k os at (l s) 7 (s .pre .2) (refused {t = Fits s os} (tested (c .before .before) os (level-of s os o)) (c .before .if1 .taken)));
-      onward = refuses at (l s) _ 10 (λ z. omega (arith, z)) e;
-      stated = refuses at (l s) _ 10 (λ z. omega (arith, z)) e;
-      enters = refuses at (l s) _ 10 (λ z. omega (arith, z)) e;
+      as-defined = λ os o. stopped (file s) k os at (l s) _ (l s) refl (c .stays .ensures) (unfit (file s) k os at (l s) 7 (s .pre .2) (refused {t = Fits s os} (tested (c .before .before) os (level-of s os o)) (c .before .if1 .taken)));
+      onward = refuses refl (c .stays .ensures);
+      stated = refuses refl (c .stays .ensures);
+      enters = refuses refl (c .stays .ensures);
     }
 
 derivation-part-requires : tie.Need-derivation-part-requires
-derivation-part-requires c κs =
-    let s = begun c in
-    few (file s) (s .args .c) (s .pre .0 .reads)
+derivation-part-requires c κs = few-there (begun c)
 
 fresh-requires : tie.Need-fresh-requires
 fresh-requires c κs = search needs
@@ -158,12 +157,11 @@ state-requires c κs =
     let g = c .before .before .before in
     let s = begun g in
     let k = s .args .c in
-    let f = few (file s) k (s .pre .0 .reads) in
     let e = c .before .before .derivation-part .ensures in (
       subst (Lies 1024 (file s)) (sym e) (derivation-lies (file s) k (fills (file s) k (s .pre .0 .reads))),
       subst (λ (p : Part). s .args .at .rule + 1 + k .a + k .b ≤ p .count) (sym e) (rows-there (file s) k (s .args .at) (l s) (blocks g) (some g) (s .pre .0 .there)),
-      f .arrays,
-      f .buffers,
+      few-there s .arrays,
+      few-there s .buffers,
       subst (λ p. SmallForms (records-in (file s) p)) (sym e) (small-forms (file s) k (s .pre .0 .reads)),
       subst Stated (sym (c .before .fresh .ensures)) zeros-stated,
     )
@@ -178,8 +176,7 @@ rows-true-requires c κs =
     let g = fitted (t .before) in
     let s = begun g in
     let k = s .args .c in
-    let f = few (file s) k (s .pre .0 .reads) in
-    (t .before .state .ensures .1, subst (Small (2 ^ 16)) (sym (first-is t)) (record { abs = loop-fits (file s) k (s .args .at) (l s) (blocks g) (some g) (s .pre .0 .reads) .first-small }), f .arrays, f .buffers)
+    (t .before .state .ensures .1, subst (Small (2 ^ 16)) (sym (first-is t)) (record { abs = loop-fits (file s) k (s .args .at) (l s) (blocks g) (some g) (s .pre .0 .reads) .first-small }), few-there s .arrays, few-there s .buffers)
 
 stays-requires-2 : tie.Need-stays-requires-2
 stays-requires-2 c κs = search needs
@@ -190,43 +187,37 @@ returns-2 c =
     let s = from b in
     let k = s .args .c in
     let at = s .args .at in
-    let e = ap (λ r. with-ledger r (l s)) (c .stays2 .ensures) in
     record {
-      as-defined = λ os o. stopped (file s) k os at (l s) _ _ 14 (λ z. omega (arith, z)) e (fit (file s) k os at (l s) 7 (s .pre .2) (goes (fitted (stated b)) os (level-of s os o)) ∙ ap (Check.at (here s os)) (for-enters (file s) k at (l s) os (s .args .around .count) (loops (s .args .around)) _ (level-of s os o) o (stated-there (stated b) os) ∙ need-fails 14 _ _ (refused (held b) (c .before .if2 .taken))));
-      onward = refuses at (l s) _ 14 (λ z. omega (arith, z)) e;
-      stated = refuses at (l s) _ 14 (λ z. omega (arith, z)) e;
-      enters = refuses at (l s) _ 14 (λ z. omega (arith, z)) e;
+      as-defined = λ os o. stopped (file s) k os at (l s) _ (l s) refl (c .stays2 .ensures) (fit (file s) k os at (l s) 7 (s .pre .2) (goes (fitted (stated b)) os (level-of s os o)) (for-enters (file s) k at (l s) os (s .args .around .count) (loops (s .args .around)) _ (level-of s os o) o (stated-there (stated b) os) ∙ need-fails 14 _ _ (refused (held b) (c .before .if2 .taken))));
+      onward = refuses refl (c .stays2 .ensures);
+      stated = refuses refl (c .stays2 .ensures);
+      enters = refuses refl (c .stays2 .ensures);
     }
 
 add-t20 : tie.Need-add-t20
 add-t20 c =
     let s = from (c .before .before) in
-    let f = few (file s) (s .args .c) (s .pre .0 .reads) in
-    omega (arith, f .rules, s .pre .0 .there)
+    omega (arith, few-there s .rules, s .pre .0 .there)
 
 add-t21 : tie.Need-add-t21
 add-t21 c =
     let s = from (c .before .before .before) in
-    let f = few (file s) (s .args .c) (s .pre .0 .reads) in
-    omega (arith, f .rules, f .arrays, s .pre .0 .there)
+    omega (arith, few-there s .rules, few-there s .arrays, s .pre .0 .there)
 
 add-t22 : tie.Need-add-t22
 add-t22 c =
     let s = from (c .before .before .before .before) in
-    let f = few (file s) (s .args .c) (s .pre .0 .reads) in
-    omega (arith, f .rules, f .arrays, f .buffers, s .pre .0 .there)
+    omega (arith, few-there s .rules, few-there s .arrays, few-there s .buffers, s .pre .0 .there)
 
 add-t23 : tie.Need-add-t23
 add-t23 c =
     let s = from (c .before .before .before .before .before) in
-    let f = few (file s) (s .args .c) (s .pre .0 .reads) in
-    omega (arith, f .rules, s .pre .0 .stood .rules, s .pre .0 .stood .arrays)
+    omega (arith, few-there s .rules, s .pre .0 .stood .rules, s .pre .0 .stood .arrays)
 
 add-t24 : tie.Need-add-t24
 add-t24 c =
     let s = from (c .before .before .before .before .before .before) in
-    let f = few (file s) (s .args .c) (s .pre .0 .reads) in
-    omega (arith, f .rules, s .pre .0 .stood .rules, s .pre .0 .stood .streams)
+    omega (arith, few-there s .rules, s .pre .0 .stood .rules, s .pre .0 .stood .streams)
 
 returns-3 : tie.Need-returns-3
 returns-3 c =
@@ -239,7 +230,7 @@ returns-3 c =
     let at = s .args .at in
     let m = rows t in
     record {
-      as-defined = λ os o. went-in (file s) k at (l s) os _ m (fit (file s) k os at (l s) 7 (s .pre .2) (goes g os (level-of s os o)) ∙ ap (Check.at (here s os)) (for-enters (file s) k at (l s) os (s .args .around .count) (loops (s .args .around)) _ (level-of s os o) o (stated-there t os) ∙ need-holds 14 _ _ (passed (held b) (d .if2 .left))));
+      as-defined = λ os o. went-in (file s) k at (l s) os _ m (fit (file s) k os at (l s) 7 (s .pre .2) (goes g os (level-of s os o)) (for-enters (file s) k at (l s) os (s .args .around .count) (loops (s .args .around)) _ (level-of s os o) o (stated-there t os) ∙ need-holds 14 _ _ (passed (held b) (d .if2 .left))));
       onward = λ z. for-onward (file s) k at (l s) (blocks g) (some g) m (s .pre .0 .stood) (s .pre .0 .there) (t .state .ensures .1);
       stated = λ z. t .state .ensures .1;
       enters = λ z. enters (file s) k at (l s) (blocks g) (some g) m;

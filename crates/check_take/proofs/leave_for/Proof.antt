@@ -1,7 +1,6 @@
 -- `check_take::leave_for` meets its contract: the rule is an end, the rows hold a step on, and after the loop they hold at its limit.
 use Prim.Native.Nat.{ℕ, _-_}
 use mathlib.Core.Path.{_≡_, refl, ap, _∙_}
-use mathlib.Core.Bool.{true}
 use mathlib.Core.List.{List, [], _∷_}
 use native.Mathlib.Omega.{arith}
 use lib.IntN.{ℤ}
@@ -11,17 +10,14 @@ use Rattle.forms.specs.Code.{loop, loops}
 use Rattle.kernel.specs.Ledger as L
 use Rattle.kernel.specs.Derivation as Derivation
 use Rattle.kernel.specs.Derivation.{Opened, in-for}
-use Rattle.kernel.specs.Check as Check
 use Rattle.parts.proofs.Parts.{few}
 use Rattle.check_ledger.specs.View.{ledger}
-use Rattle.check_ledger.proofs.Bounds.{bounded-wider}
 use Rattle.check_rows.specs.Changes.{with-change, amount}
 use Rattle.check_rules.proofs.Fitting.{refused, passed}
 use Rattle.check_rules.proofs.Effects.{need-fails, need-holds}
-use Rattle.check_take.specs.View.{place, with-ledger}
-use Rattle.check_take.proofs.Taking.{Closed, closing, refuses, stopped, went-on, closed-fits, closes, not-end, for-stops, for-ends}
+use Rattle.check_take.proofs.Taking.{closing, refuses, stopped, went-on, closed-fits, closes, not-end, for-stops, for-ends}
 use Rattle.check_take.proofs.Standing.{near}
-use Rattle.check_take.proofs.Going.{onward, end-for-reads}
+use Rattle.check_take.proofs.Going.{onward-one, end-for-reads}
 use Rattle.check_take.proofs.Limit.{step-back-small, step-as, product-fits, sum-fits, limit-as, limit-small}
 use Rattle.check_take.proofs.Entering.{level-inside}
 use Rattle.check_take.proofs.leave_for.Statement.{statement}
@@ -46,15 +42,6 @@ module _ (s : tie.Start) where
   -- inside the for
   abbrev body : List Opened → List Opened
   body os = in-for (loop (s .args .own)) rows ∷ os
-
-  abbrev here : List Opened → Derivation.Place
-  here os = place (s .args .c .a) (s .args .c .b) (body os) (s .args .at) l
-
--- the rule is an end that fits
-ends : (c : tie.Else1) (os : List Opened) → Closed (file (c .before .before .before)) (c .before .before .before .args .c) os (c .before .before .before .args .at) (l (c .before .before .before)) 10 ≡ true
-ends c os =
-    let s = c .before .before .before in
-    passed {t = Closed (file s) (s .args .c) os (s .args .at) (l s) 10} (c .before .closes .ensures (place (s .args .c .a) (s .args .c .b) os (s .args .at) (l s))) (c .if1 .left)
 
 -- the second test is whether the rows hold a step on
 module _ (c : tie.After-rows-true) where
@@ -94,11 +81,10 @@ returns c =
     let s = c .before .before .before .before in
     let k = s .args .c in
     let at = s .args .at in
-    let e = ap (λ r. with-ledger r (l s)) (c .stays .ensures) in
     record {
-      as-defined = λ os a. stopped (file s) k (body s os) at (l s) _ _ 10 (λ z. omega (arith, z)) e (not-end (file s) k (body s os) at (l s) (s .pre .1) (for-stops (file s) k os at (l s) (loop (s .args .own)) (rows s)) (refused {t = Closed (file s) k (body s os) at (l s) 10} (c .before .before .closes .ensures (here s os)) (c .before .if1 .taken)));
-      onward = refuses at (l s) _ 10 (λ z. omega (arith, z)) e;
-      reads-on = refuses at (l s) _ 10 (λ z. omega (arith, z)) e;
+      as-defined = λ os a. stopped (file s) k (body s os) at (l s) _ (l s) refl (c .stays .ensures) (not-end (file s) k (body s os) at (l s) (s .pre .1) (for-stops (file s) k os at (l s) (loop (s .args .own)) (rows s)) (c .before .before .closes .ensures) (c .before .if1 .taken));
+      onward = refuses refl (c .stays .ensures);
+      reads-on = refuses refl (c .stays .ensures);
     }
 
 sub-level : tie.Need-sub-level
@@ -121,11 +107,10 @@ returns-2 c =
     let k = s .args .c in
     let at = s .args .at in
     let own = loop (s .args .own) in
-    let e = ap (λ r. with-ledger r (l s)) (c .stays2 .ensures) in
     record {
-      as-defined = λ os a. stopped (file s) k (body s os) at (l s) _ _ 15 (λ z. omega (arith, z)) e (closes (file s) k (body s os) at (l s) 10 (ends (closed b) (body s os)) ∙ ap (Check.at (here s os)) (for-ends (file s) k os at (l s) own (rows s) (level s) (loops (s .args .inside)) (level-inside (Derivation.loops os) own (s .args .inside) (s .pre .5) a) a ∙ need-fails 15 _ _ (refused (held b) (c .before .if2 .taken))));
-      onward = refuses at (l s) _ 15 (λ z. omega (arith, z)) e;
-      reads-on = refuses at (l s) _ 15 (λ z. omega (arith, z)) e;
+      as-defined = λ os a. stopped (file s) k (body s os) at (l s) _ (l s) refl (c .stays2 .ensures) (closes (file s) k (body s os) at (l s) 10 (closed b .before .closes .ensures) (closed b .if1 .left) (for-ends (file s) k os at (l s) own (rows s) (level s) (loops (s .args .inside)) (level-inside (Derivation.loops os) own (s .args .inside) (s .pre .5) a) a ∙ need-fails 15 _ _ (refused (held b) (c .before .if2 .taken))));
+      onward = refuses refl (c .stays2 .ensures);
+      reads-on = refuses refl (c .stays2 .ensures);
     }
 
 cast-limit : tie.Need-cast-limit
@@ -149,10 +134,7 @@ rows-left-requires c κs =
     (s .pre .2, limit-small (s .args .own) (s .pre .3), f .arrays, f .buffers, (s .args .at .rule, s .pre .0 .stood .bounded))
 
 took-requires : tie.Need-took-requires
-took-requires c κs =
-    let s = start c in
-    let n = near (file s) (s .args .c) (s .args .at) (l s) (s .pre .0 .reads) (s .pre .0 .stood) in
-    (n .0, n .1, n .2, omega arith)
+took-requires c κs = near (start c .pre .0) (omega arith)
 
 returns-3 : tie.Need-returns-3
 returns-3 c =
@@ -163,11 +145,10 @@ returns-3 c =
     let at = s .args .at in
     let own = loop (s .args .own) in
     let m = left (c .before) in
-    let e = ap (λ r. with-ledger r m) (c .took .ensures) in
     record {
-      as-defined = λ os a. went-on (file s) k (body s os) at (l s) _ _ 1 m _ e (at-limit (c .before)) (closes (file s) k (body s os) at (l s) 10 (ends (closed b) (body s os)) ∙ ap (Check.at (here s os)) (for-ends (file s) k os at (l s) own (rows s) (level s) (loops (s .args .inside)) (level-inside (Derivation.loops os) own (s .args .inside) (s .pre .5) a) a ∙ need-holds 15 _ _ (passed (held b) (d .if2 .left))));
-      onward = λ z. onward k at (l s) _ 1 m (omega arith) (s .pre .0 .stood) (s .pre .0 .there) (bounded-wider (c .before .rows-left .ensures .1 (at .rule) (s .pre .0 .stood .bounded)) (omega arith)) e;
-      reads-on = λ z. end-for-reads (file s) k [] at (l s) m _ e (closed-fits (file s) k [] at (l s) 10 (ends (closed b) []));
+      as-defined = λ os a. went-on (file s) k (body s os) at (l s) _ m 1 (c .took .ensures) (at-limit (c .before)) (closes (file s) k (body s os) at (l s) 10 (closed b .before .closes .ensures) (closed b .if1 .left) (for-ends (file s) k os at (l s) own (rows s) (level s) (loops (s .args .inside)) (level-inside (Derivation.loops os) own (s .args .inside) (s .pre .5) a) a ∙ need-holds 15 _ _ (passed (held b) (d .if2 .left))));
+      onward = λ z. onward-one (s .pre .0) (c .before .rows-left .ensures .1 (at .rule) (s .pre .0 .stood .bounded)) (c .took .ensures);
+      reads-on = λ z. end-for-reads (file s) k [] at (l s) (c .took .ensures) (closed-fits (file s) k [] at (l s) 10 (closed b .before .closes .ensures) (closed b .if1 .left));
     }
 
 pub leave-for-spec : {M : Type 1} → statement M

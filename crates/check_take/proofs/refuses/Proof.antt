@@ -1,6 +1,6 @@
 -- `check_take::refuses` meets its contract: 10 where the rule does not fit, else what it asks.
 use Prim.Native.Nat.{ℕ}
-use mathlib.Core.Path.{_≡_, refl, sym, ap, _∙_}
+use mathlib.Core.Path.{_≡_, sym, _∙_}
 use mathlib.Core.Bool.{true}
 use mathlib.Core.List.{List}
 use native.Mathlib.Omega.{arith}
@@ -8,14 +8,14 @@ use Rattle.numbers.specs.Result.{ok, _>>=_}
 use Rattle.kernel.specs.Derivation.{Place, went, beginning, rule}
 use Rattle.kernel.specs.Check as Check
 use Rattle.parts.specs.Records.{rec}
-use Rattle.parts.proofs.Parts.{K, few, registers-are}
+use Rattle.parts.proofs.Parts.{K, few}
 use Rattle.check_ledger.specs.View.{ledger}
 use Rattle.check_rules.specs.View.{Named, asked-there, answered, stepped, arrays-taken}
-use Rattle.check_rules.proofs.Effects.{PlainRule, answers-stop}
+use Rattle.check_rules.proofs.Effects.{PlainRule}
 use Rattle.check_rules.proofs.Fitting.{refused, passed}
 use Rattle.check_take.specs.declared.Place as Code
-use Rattle.check_take.specs.View.{place, fits-there, Next}
-use Rattle.check_take.proofs.Comes.{here, Fitting, unfit, comes}
+use Rattle.check_take.specs.View.{fits-there, Next}
+use Rattle.check_take.proofs.Comes.{fits-next, here, unfit, comes}
 use Rattle.check_take.proofs.Statements.{level-at, not-for, named-next}
 use Rattle.check_take.proofs.Going.{rule-reads}
 use Rattle.check_take.proofs.refuses.Statement.{statement}
@@ -28,21 +28,13 @@ module _ (s : tie.Start) where
   level : PlainRule (rule (s .args .code))
   level = level-at (s .args .code) (s .pre .2)
 
--- the test is whether the rule fits, wherever the derivation stands with these statements next
-fits-is : (c : tie.After-fits2) (at : Code.Place) → Next (file (c .before .before)) (c .before .before .args .c) at (c .before .before .args .a) (c .before .before .args .s) → (d : Place)
-    → c .fits2 .result ≡ fits-there (file (c .before .before)) (c .before .before .args .c) at (c .before .before .args .code) d
-fits-is c at n d =
-    let s = c .before .before in
-    let k = K (file s) (s .args .c) in
-    c .fits2 .ensures k d (registers-are (file s) (s .args .c)) ∙ (λ i. Check.fits k d (rule (s .args .code)) (n .array-is i) (n .stream-is i))
-
 -- it fits
 module _ (c : tie.Else1) where
   abbrev begun : tie.Start
   begun = c .before .before .before
 
   fit : (at : Code.Place) → Next (file begun) (begun .args .c) at (begun .args .a) (begun .args .s) → (d : Place) → fits-there (file begun) (begun .args .c) at (begun .args .code) d ≡ true
-  fit at n d = passed (fits-is (c .before) at n d) (c .if1 .left)
+  fit at n d = passed (fits-next (begun .args .code) n (c .before .fits2 .ensures) d) (c .if1 .left)
 
   names : Named (begun .args .c) (rule (begun .args .code)) (rec (begun .args .a)) (rec (begun .args .s))
   names =
@@ -62,7 +54,7 @@ returns c =
     let k = s .args .c in
     let l = s .args .l .now in
     record {
-      as-defined = λ os at o e n. unfit (file s) k os at l (s .args .code) (sym e) (refused {t = Fitting (file s) k os at l (s .args .code)} (fits-is (c .before) at n (place (k .a) (k .b) os at l)) (c .if1 .taken));
+      as-defined = λ os at o e n. unfit (file s) k os at l (s .args .code) (sym e) (refused (fits-next (s .args .code) n (c .before .fits2 .ensures) _) (c .if1 .taken));
       named = λ z. absurd (omega (arith, z));
       reads-on = λ z. absurd (omega (arith, z));
     }

@@ -2,13 +2,14 @@
 -- for a rule, and one more for a block.
 use Prim.Native.Nat.{ℕ, _+_, _-_, _<_}
 use mathlib.Core.Path.{_≡_, refl, sym, ap, subst, _∙_}
-use mathlib.Core.Bool.{true, false≢true}
+use mathlib.Core.Bool.{false≢true}
 use mathlib.Core.List.{List, _∷_}
 use native.Mathlib.Omega.{arith}
 use lib.IntN.{ℤ}
 use borrow.Author.Needs.{needs}
 use borrow.Fn.Kinds.{In}
 use borrow.Fn.PlainCycle.{Measures, is, falls, and}
+use Rattle.forms.specs.declared.Loops.{Loops}
 use Rattle.forms.specs.Code.{loop, loops}
 use Rattle.kernel.specs.File.{loop-of}
 use Rattle.kernel.specs.Reading.{open-if}
@@ -17,10 +18,10 @@ use Rattle.kernel.specs.Guarantees.{LoopFits}
 use Rattle.parts.specs.declared.Counts.{Counts}
 use Rattle.parts.proofs.Room.{loop-room}
 use Rattle.check_ledger.proofs.Bounds.{bounded-wider}
-use Rattle.check_take.specs.View.{Taken, standing, with-ledger, loop-there, rule-code, Closing, Plain, Stood, AtRule, Onward, Enters, ReadsOn, EnteredIf, Turned}
+use Rattle.check_take.specs.View.{Taken, standing, with-ledger, loop-there, Closing, Plain, AtRule, Enters, EnteredIf, Turned}
 use Rattle.check_walk.specs.View.{Goes, Further, Rests, Opens}
-use Rattle.check_walk.proofs.Walks.{goes-none, goes-rule, goes-then, comes-inside}
-use Rattle.check_walk.proofs.Stretches.{closing-code, other-code, plain-code, stops-inside, for-body, for-left, if-entered, if-first, if-turned, if-second, if-left, further-none, further-then, further-opens, further-for, further-if, opens-for, opens-if, opens-else}
+use Rattle.check_walk.proofs.Walks.{goes-none, goes-then}
+use Rattle.check_walk.proofs.Stretches.{closing-code, other-code, plain-code, further-none, further-then, further-opens, opens-for, opens-if, opens-else, closes-inside, stops-inside, for-entered, for-body, for-left, if-entered, if-first, if-turned, if-second, if-left}
 use Rattle.check_walk.proofs.check_block.Reads as check-block
 use Rattle.check_walk.proofs.check_block.Kinds as check-block-kinds
 use Rattle.check_walk.proofs.+check_block+check_rule.Lts-check_block as check-block-lts
@@ -145,7 +146,7 @@ check-block-loop-holds : (t : ℕ) → check-block-lts.Need-loop-holds (b-calls 
 check-block-loop-holds t c =
     let a = c .before .args in
     let p = c .before .pre .1 in
-    (further-none (a .file .now) (a .c) (a .from) (a .l .now) (p .1), λ os k. goes-none (a .file .now) (a .c) os (standing (a .from) (a .l .now)) refl)
+    (further-none (p .1), λ os k. goes-none (a .file .now) (a .c) os (standing (a .from) (a .l .now)) refl)
 
 check-block-code-next-requires : (t : ℕ) → check-block-lts.Need-code-next-requires (b-calls t) (check-block-at t) check-block.Post check-block-Inv-loop check-block-μ-loop
 check-block-code-next-requires t c κs = (check-block-start t (c .before .before .before) .pre .1 .0, c .if1 .taken)
@@ -174,7 +175,7 @@ check-block-check-rule-requires t c κs =
     let i = b .loop .inv in
     let n = k .before .code-next in (
       omega (arith, s .pre .0, i .0 .further-on, check-block-there t k),
-      (p .0, i .0 .stood, check-block-there t k, p .2, p .3, further-opens (s .args .file .now) (s .args .c) (s .args .from) (b .loop .at) (b .loop .l) (s .args .ls) (i .0) (p .4), n .ensures, other-code (n .result) (λ y. false≢true (sym (c .before .if2 .left) ∙ k .between .ensures ∙ y))),
+      (p .0, i .0 .stood, check-block-there t k, p .2, p .3, further-opens (i .0) (p .4), n .ensures, other-code (n .result) (λ y. false≢true (sym (c .before .if2 .left) ∙ k .between .ensures ∙ y))),
     )
 
 check-block-returns-2 : (t : ℕ) → check-block-lts.Need-returns-2 (b-calls t) (check-block-at t) check-block.Post check-block-Inv-loop check-block-μ-loop
@@ -194,7 +195,7 @@ check-block-loop-again t c =
     let r = c .before .before .before .check-rule in
     let l = r .last .1 .1 .1 .0 in
     let z = c .before .if3 .left in (
-      further-then (s .args .file .now) (s .args .c) (s .args .from) (b .loop .at) (r .result .at) (b .loop .l) l (b .loop .inv .0) (r .ensures .1 z .0),
+      further-then (b .loop .inv .0) (r .ensures .1 z .0),
       λ os k. check-block-goes t b (standing (r .result .at) l) os k (subst (λ n. Goes (s .args .file .now) (s .args .c) os (check-block-here t b) os (record { number = n; at = r .result .at; ledger = l })) z (r .ensures .0 os k)),
     )
 
@@ -220,24 +221,20 @@ module _ (t : ℕ) (c : check-rule-lts.After-shared-slice-known (r-calls t) (che
   abbrev check-rule-counts : Counts
   check-rule-counts = check-rule-start .args .c
 
+  abbrev check-rule-around : Loops
+  check-rule-around = check-rule-start .args .ls
+
   abbrev check-rule-ledger : List ℤ
   check-rule-ledger = check-rule-start .args .l .now
 
   abbrev check-rule-from : Taken
   check-rule-from = standing (check-rule-start .args .at) check-rule-ledger
 
-  abbrev check-rule-opens : Opens check-rule-file check-rule-counts (check-rule-from .at) (check-rule-start .args .ls)
+  abbrev check-rule-opens : Opens check-rule-file check-rule-counts (check-rule-from .at) check-rule-around
   check-rule-opens = check-rule-start .pre .1 .5
 
   check-rule-there : AtRule check-rule-file check-rule-counts (check-rule-from .at) check-rule-ledger
   check-rule-there = record { reads = check-rule-start .pre .1 .0; stood = check-rule-start .pre .1 .1; there = check-rule-start .pre .1 .2 }
-
-  -- a block inside has been walked to v, where a rule closes it
-  check-rule-closes : (v : Taken) → Stood check-rule-counts (v .at) (v .ledger) → Rests check-rule-file check-rule-counts true (v .at)
-      → AtRule check-rule-file check-rule-counts (v .at) (v .ledger) × Closing (rule-code check-rule-file check-rule-counts (v .at))
-  check-rule-closes v h s =
-      let (there, code) = comes-inside check-rule-file check-rule-counts (v .at) s in
-      (record { reads = check-rule-start .pre .1 .0; stood = h; there = there }, code)
 
 -- ---- a for
 
@@ -247,62 +244,63 @@ check-rule-enter-for-requires t c κs =
     let p = check-rule-start t b .pre .1 in
     (check-rule-there t b, p .4, sym (p .6) ∙ c .before .if1 .taken)
 
+-- what entering it comes to
+module _ (t : ℕ) (c : check-rule-lts.After-enter-for (r-calls t) (check-rule-at t) check-rule.Post) where
+  abbrev check-rule-for-read : check-rule-lts.After-shared-slice-known (r-calls t) (check-rule-at t) check-rule.Post
+  check-rule-for-read = c .before .before .before
+
+  abbrev check-rule-for-in : Taken
+  check-rule-for-in = with-ledger (c .enter-for .result) (c .enter-for .last .1 .1 .1 .0)
+
 check-rule-returns : (t : ℕ) → check-rule-lts.Need-returns (r-calls t) (check-rule-at t) check-rule.Post
 check-rule-returns t c =
-    let b = c .before .before .before .before .before in
-    let s = check-rule-start t b in
-    let e = c .before .before .enter-for in
-    let l = e .last .1 .1 .1 .0 in
-    let o = S.in-for (loop-there (check-rule-file t b) (check-rule-counts t b) (check-rule-from t b .at)) _ in (
-      stops-inside (check-rule-file t b) (check-rule-counts t b) (s .args .ls) (check-rule-from t b) (with-ledger (e .result) l) l o (λ os k. goes-rule (check-rule-file t b) (check-rule-counts t b) os (o ∷ os) (check-rule-from t b) (with-ledger (e .result) l) (s .pre .1 .2) (e .ensures .as-defined os k)) (c .if2 .taken),
-      (λ z. absurd (c .if2 .taken z)),
-    )
+    let e = c .before .before in
+    let b = check-rule-for-read t e in
+    let in-it = check-rule-for-in t e in
+    stops-inside (check-rule-there t b) (check-rule-around t b) in-it (in-it .ledger) _ (for-entered (check-rule-there t b) (check-rule-around t b) (e .enter-for .ensures)) (c .if2 .taken)
 
 -- entered
 module _ (t : ℕ) (c : check-rule-lts.Else2 (r-calls t) (check-rule-at t) check-rule.Post) where
-  abbrev check-rule-for-read : check-rule-lts.After-shared-slice-known (r-calls t) (check-rule-at t) check-rule.Post
-  check-rule-for-read = c .before .before .before .before .before
+  abbrev check-rule-for-at : check-rule-lts.After-enter-for (r-calls t) (check-rule-at t) check-rule.Post
+  check-rule-for-at = c .before .before
 
-  abbrev check-rule-for-in : Taken
-  check-rule-for-in = with-ledger (c .before .before .enter-for .result) (c .before .before .enter-for .last .1 .1 .1 .0)
-
-  abbrev check-rule-for-onward : Onward (check-rule-counts t check-rule-for-read) (check-rule-from t check-rule-for-read .at) check-rule-for-in
-  check-rule-for-onward = c .before .before .enter-for .ensures .onward (c .if2 .left)
-
-  check-rule-for-enters : Enters (check-rule-file t check-rule-for-read) (check-rule-counts t check-rule-for-read) (check-rule-opens t check-rule-for-read .opens) (check-rule-from t check-rule-for-read .at) (check-rule-for-in .at)
-  check-rule-for-enters = c .before .before .enter-for .ensures .enters (c .if2 .left) (check-rule-opens t check-rule-for-read .opens) (check-rule-opens t check-rule-for-read .reads-on)
+  check-rule-for-enters : Enters (check-rule-file t (check-rule-for-read t check-rule-for-at)) (check-rule-counts t (check-rule-for-read t check-rule-for-at)) (check-rule-opens t (check-rule-for-read t check-rule-for-at) .opens) (check-rule-from t (check-rule-for-read t check-rule-for-at) .at) (check-rule-for-in t check-rule-for-at .at)
+  check-rule-for-enters = check-rule-for-at .enter-for .ensures .enters (c .if2 .left) (check-rule-opens t (check-rule-for-read t check-rule-for-at) .opens) (check-rule-opens t (check-rule-for-read t check-rule-for-at) .reads-on)
 
 -- its loop has been read
 module _ (t : ℕ) (c : check-rule-lts.After-loop-of (r-calls t) (check-rule-at t) check-rule.Post) where
   abbrev check-rule-for-entered : check-rule-lts.Else2 (r-calls t) (check-rule-at t) check-rule.Post
   check-rule-for-entered = c .before .before .before
 
-  check-rule-for-same : loop (c .loop-of .result) ≡ loop-there (check-rule-file t (check-rule-for-read t check-rule-for-entered)) (check-rule-counts t (check-rule-for-read t check-rule-for-entered)) (check-rule-from t (check-rule-for-read t check-rule-for-entered) .at)
+  abbrev check-rule-loop-read : check-rule-lts.After-shared-slice-known (r-calls t) (check-rule-at t) check-rule.Post
+  check-rule-loop-read = check-rule-for-read t (check-rule-for-at t check-rule-for-entered)
+
+  check-rule-for-same : loop (c .loop-of .result) ≡ loop-there (check-rule-file t check-rule-loop-read) (check-rule-counts t check-rule-loop-read) (check-rule-from t check-rule-loop-read .at)
   check-rule-for-same = c .loop-of .ensures ∙ ap loop-of (c .before .array-next .ensures)
 
   check-rule-for-fits : LoopFits (loop (c .loop-of .result))
   check-rule-for-fits = subst LoopFits (sym check-rule-for-same) (check-rule-for-enters t check-rule-for-entered .fits)
 
 check-rule-array-next-requires : (t : ℕ) → check-rule-lts.Need-array-next-requires (r-calls t) (check-rule-at t) check-rule.Post
-check-rule-array-next-requires t c κs = check-rule-start t (check-rule-for-read t (c .before)) .pre .1 .0
+check-rule-array-next-requires t c κs = check-rule-start t (check-rule-for-read t (check-rule-for-at t (c .before))) .pre .1 .0
 
 check-rule-loop-of-requires : (t : ℕ) → check-rule-lts.Need-loop-of-requires (r-calls t) (check-rule-at t) check-rule.Post
 check-rule-loop-of-requires t c κs = search needs
 
 check-rule-deeper-requires : (t : ℕ) → check-rule-lts.Need-deeper-requires (r-calls t) (check-rule-at t) check-rule.Post
 check-rule-deeper-requires t c κs =
-    let i = check-rule-for-entered t c in
-    let b = check-rule-for-read t i in
-    (omega (arith, check-rule-for-enters t i .room, check-rule-opens t b .level), check-rule-start t b .pre .1 .3, loop-room (c .loop-of .result) (check-rule-for-fits t c))
+    let b = check-rule-loop-read t c in
+    (omega (arith, check-rule-for-enters t (check-rule-for-entered t c) .room, check-rule-opens t b .level), check-rule-start t b .pre .1 .3, loop-room (c .loop-of .result) (check-rule-for-fits t c))
 
 check-rule-check-block-requires : (t : ℕ) → check-rule-lts.Need-check-block-requires (r-calls t) (check-rule-at t) check-rule.Post
 check-rule-check-block-requires t c κs =
     let d = c .before .deeper in
     let i = check-rule-for-entered t (c .before .before) in
-    let b = check-rule-for-read t i in
-    let s = check-rule-start t b in (
-      omega (arith, s .pre .0, check-rule-for-onward t i .further-on, s .pre .1 .2),
-      (s .pre .1 .0, check-rule-for-onward t i .stood, d .ensures .1, omega (arith, d .ensures .2, check-rule-for-enters t i .room, check-rule-opens t b .level), opens-for (check-rule-file t b) (check-rule-counts t b) (check-rule-from t b .at) (check-rule-for-in t i .at) (s .args .ls) (d .result) (check-rule-opens t b) (check-rule-for-enters t i) (d .ensures .2)),
+    let b = check-rule-loop-read t (c .before .before) in
+    let s = check-rule-start t b in
+    let on = check-rule-for-at t i .enter-for .ensures .onward (i .if2 .left) in (
+      omega (arith, s .pre .0, on .further-on, s .pre .1 .2),
+      (s .pre .1 .0, on .stood, d .ensures .1, omega (arith, d .ensures .2, check-rule-for-enters t i .room, check-rule-opens t b .level), opens-for (check-rule-opens t b) (check-rule-for-enters t i) (d .ensures .2)),
     )
 
 -- what its body comes to
@@ -318,36 +316,21 @@ check-rule-returns-2 t c =
     let v = c .before .before in
     let d = check-rule-for-deep t v in
     let i = check-rule-for-entered t (d .before) in
-    let b = check-rule-for-read t i in
-    let s = check-rule-start t b in
-    let end = check-rule-for-end t v in (
-      stops-inside (check-rule-file t b) (check-rule-counts t b) (s .args .ls) (check-rule-from t b) end (end .ledger) _ (for-body (check-rule-file t b) (check-rule-counts t b) (s .args .ls) (d .deeper .result) (check-rule-from t b) (check-rule-for-in t i) (d .before .loop-of .result) (check-rule-for-same t (d .before)) (d .deeper .ensures .0) (s .pre .1 .2) (i .before .before .enter-for .ensures .as-defined) end (i .if2 .left) (v .check-block .ensures .0)) (c .if3 .taken),
-      (λ z. absurd (c .if3 .taken z)),
-    )
-
--- its body has been walked
-module _ (t : ℕ) (c : check-rule-lts.Else3 (r-calls t) (check-rule-at t) check-rule.Post) where
-  abbrev check-rule-for-body : check-rule-lts.After-check-block (r-calls t) (check-rule-at t) check-rule.Post
-  check-rule-for-body = c .before .before
-
-  abbrev check-rule-for-begun : check-rule-lts.Else2 (r-calls t) (check-rule-at t) check-rule.Post
-  check-rule-for-begun = check-rule-for-entered t (check-rule-for-deep t check-rule-for-body .before)
-
-  abbrev check-rule-for-walked : Further (check-rule-file t (check-rule-for-read t check-rule-for-begun)) (check-rule-counts t (check-rule-for-read t check-rule-for-begun)) (check-rule-for-in t check-rule-for-begun .at) (check-rule-for-end t check-rule-for-body .at) (check-rule-for-end t check-rule-for-body .ledger)
-  check-rule-for-walked = check-rule-for-body .check-block .ensures .1 (c .if3 .left) .0
-
-  check-rule-for-closes : AtRule (check-rule-file t (check-rule-for-read t check-rule-for-begun)) (check-rule-counts t (check-rule-for-read t check-rule-for-begun)) (check-rule-for-end t check-rule-for-body .at) (check-rule-for-end t check-rule-for-body .ledger) × Closing (rule-code (check-rule-file t (check-rule-for-read t check-rule-for-begun)) (check-rule-counts t (check-rule-for-read t check-rule-for-begun)) (check-rule-for-end t check-rule-for-body .at))
-  check-rule-for-closes = check-rule-closes t (check-rule-for-read t check-rule-for-begun) (check-rule-for-end t check-rule-for-body) (check-rule-for-walked .stood) (check-rule-for-body .check-block .ensures .1 (c .if3 .left) .1)
+    let b = check-rule-loop-read t (d .before) in
+    let end = check-rule-for-end t v in
+    stops-inside (check-rule-there t b) (check-rule-around t b) end (end .ledger) _ (for-body (check-rule-there t b) (check-rule-around t b) (check-rule-for-at t i .enter-for .ensures) (d .deeper .result) (d .before .loop-of .result) (check-rule-for-same t (d .before)) (d .deeper .ensures .0) (i .if2 .left) end (v .check-block .ensures)) (c .if3 .taken)
 
 check-rule-leave-for-requires : (t : ℕ) → check-rule-lts.Need-leave-for-requires (r-calls t) (check-rule-at t) check-rule.Post
 check-rule-leave-for-requires t c κs =
     let k = c .before .before in
-    let d = check-rule-for-deep t (check-rule-for-body t k) in
-    let i = check-rule-for-begun t k in
-    let b = check-rule-for-read t i in (
-      check-rule-for-closes t k .0,
-      check-rule-for-closes t k .1,
-      i .before .before .enter-for .ensures .stated (i .if2 .left),
+    let v = k .before .before in
+    let d = check-rule-for-deep t v in
+    let i = check-rule-for-entered t (d .before) in
+    let b = check-rule-loop-read t (d .before) in
+    let (there, code) = closes-inside (check-rule-there t b) (v .check-block .ensures .1 (k .if3 .left)) in (
+      there,
+      code,
+      check-rule-for-at t i .enter-for .ensures .stated (i .if2 .left),
       check-rule-for-fits t (d .before),
       omega (arith, d .deeper .ensures .2),
       omega (arith, d .deeper .ensures .2, check-rule-for-enters t i .room, check-rule-opens t b .level),
@@ -356,17 +339,11 @@ check-rule-leave-for-requires t c κs =
 check-rule-returns-3 : (t : ℕ) → check-rule-lts.Need-returns-3 (r-calls t) (check-rule-at t) check-rule.Post
 check-rule-returns-3 t c =
     let k = c .before .before .before in
-    let v = check-rule-for-body t k in
+    let v = k .before .before in
     let d = check-rule-for-deep t v in
-    let i = check-rule-for-begun t k in
-    let b = check-rule-for-read t i in
-    let s = check-rule-start t b in
-    let end = check-rule-for-end t v in
-    let r = c .leave-for in
-    let left = with-ledger (r .result) (r .last .1 .1 .1 .0) in (
-      for-left (check-rule-file t b) (check-rule-counts t b) (s .args .ls) (d .deeper .result) (check-rule-from t b) (check-rule-for-in t i) (d .before .loop-of .result) (check-rule-for-same t (d .before)) (d .deeper .ensures .0) (s .pre .1 .2) (i .before .before .enter-for .ensures .as-defined) end left (i .if2 .left) (v .check-block .ensures .0) (k .if3 .left) (check-rule-for-closes t k .0 .there) (r .ensures .as-defined),
-      (λ z. further-for (check-rule-file t b) (check-rule-counts t b) (check-rule-from t b .at) (check-rule-for-in t i) end left (check-rule-for-onward t i) (i .before .before .enter-for .ensures .enters (i .if2 .left)) (check-rule-for-walked t k) (r .ensures .onward z) (r .ensures .reads-on z)),
-    )
+    let i = check-rule-for-entered t (d .before) in
+    let b = check-rule-loop-read t (d .before) in
+    for-left (check-rule-there t b) (check-rule-around t b) (check-rule-for-at t i .enter-for .ensures) (d .deeper .result) (d .before .loop-of .result) (check-rule-for-same t (d .before)) (d .deeper .ensures .0) (i .if2 .left) (check-rule-for-end t v) (v .check-block .ensures) (k .if3 .left) (c .leave-for .ensures)
 
 -- ---- an if
 
@@ -390,30 +367,18 @@ check-rule-returns-4 : (t : ℕ) → check-rule-lts.Need-returns-4 (r-calls t) (
 check-rule-returns-4 t c =
     let e = c .before .before in
     let b = check-rule-if-read t e in
-    let s = check-rule-start t b in (
-      stops-inside (check-rule-file t b) (check-rule-counts t b) (s .args .ls) (check-rule-from t b) (check-rule-if-in t e) (check-rule-ledger t b) _ (if-entered (check-rule-file t b) (check-rule-counts t b) (s .args .ls) (check-rule-from t b) (check-rule-if-in t e) (s .pre .1 .2) (check-rule-if-entered t e .as-defined)) (c .if5 .taken),
-      (λ z. absurd (c .if5 .taken z)),
-    )
-
--- entered
-module _ (t : ℕ) (c : check-rule-lts.Else5 (r-calls t) (check-rule-at t) check-rule.Post) where
-  abbrev check-rule-if-at : check-rule-lts.After-enter-if (r-calls t) (check-rule-at t) check-rule.Post
-  check-rule-if-at = c .before .before
-
-  abbrev check-rule-if-onward : Onward (check-rule-counts t (check-rule-if-read t check-rule-if-at)) (check-rule-from t (check-rule-if-read t check-rule-if-at) .at) (check-rule-if-in t check-rule-if-at)
-  check-rule-if-onward = check-rule-if-entered t check-rule-if-at .onward (c .if5 .left)
-
-  check-rule-if-reads : ReadsOn (check-rule-file t (check-rule-if-read t check-rule-if-at)) (check-rule-counts t (check-rule-if-read t check-rule-if-at)) (open-if ∷ check-rule-opens t (check-rule-if-read t check-rule-if-at) .opens) (check-rule-if-in t check-rule-if-at .at)
-  check-rule-if-reads = check-rule-if-entered t check-rule-if-at .reads-on (c .if5 .left) (check-rule-opens t (check-rule-if-read t check-rule-if-at) .opens) (check-rule-opens t (check-rule-if-read t check-rule-if-at) .reads-on)
+    stops-inside (check-rule-there t b) (check-rule-around t b) (check-rule-if-in t e) (check-rule-ledger t b) _ (if-entered (check-rule-there t b) (check-rule-around t b) (check-rule-if-entered t e)) (c .if5 .taken)
 
 check-rule-check-block-requires-2 : (t : ℕ) → check-rule-lts.Need-check-block-requires-2 (r-calls t) (check-rule-at t) check-rule.Post
 check-rule-check-block-requires-2 t c κs =
     let i = c .before .before in
-    let e = check-rule-if-at t i in
+    let e = i .before .before in
     let b = check-rule-if-read t e in
-    let s = check-rule-start t b in (
-      omega (arith, s .pre .0, check-rule-if-onward t i .further-on, s .pre .1 .2),
-      (s .pre .1 .0, check-rule-if-onward t i .stood, s .pre .1 .3, s .pre .1 .4, opens-if (check-rule-file t b) (check-rule-counts t b) (check-rule-from t b .at) (check-rule-if-in t e .at) (s .args .ls) (check-rule-opens t b) (check-rule-if-reads t i)),
+    let s = check-rule-start t b in
+    let opens = check-rule-opens t b in
+    let on = check-rule-if-entered t e .onward (i .if5 .left) in (
+      omega (arith, s .pre .0, on .further-on, s .pre .1 .2),
+      (s .pre .1 .0, on .stood, s .pre .1 .3, s .pre .1 .4, opens-if opens (check-rule-if-entered t e .reads-on (i .if5 .left) (opens .opens) (opens .reads-on))),
     )
 
 -- what its first branch comes to
@@ -421,91 +386,71 @@ module _ (t : ℕ) (c : check-rule-lts.After-check-block2 (r-calls t) (check-rul
   abbrev check-rule-first-in : check-rule-lts.Else5 (r-calls t) (check-rule-at t) check-rule.Post
   check-rule-first-in = c .before .before .before
 
+  abbrev check-rule-first-at : check-rule-lts.After-enter-if (r-calls t) (check-rule-at t) check-rule.Post
+  check-rule-first-at = check-rule-first-in .before .before
+
+  abbrev check-rule-first-read : check-rule-lts.After-shared-slice-known (r-calls t) (check-rule-at t) check-rule.Post
+  check-rule-first-read = check-rule-if-read t check-rule-first-at
+
   abbrev check-rule-first-end : Taken
   check-rule-first-end = with-ledger (c .check-block2 .result) (c .check-block2 .last .1 .1 .1 .0)
 
 check-rule-returns-5 : (t : ℕ) → check-rule-lts.Need-returns-5 (r-calls t) (check-rule-at t) check-rule.Post
 check-rule-returns-5 t c =
     let v = c .before .before in
-    let i = check-rule-first-in t v in
-    let e = check-rule-if-at t i in
-    let b = check-rule-if-read t e in
-    let s = check-rule-start t b in
-    let end = check-rule-first-end t v in (
-      stops-inside (check-rule-file t b) (check-rule-counts t b) (s .args .ls) (check-rule-from t b) end (end .ledger) _ (if-first (check-rule-file t b) (check-rule-counts t b) (s .args .ls) (check-rule-from t b) (check-rule-if-in t e) (s .pre .1 .2) (check-rule-if-entered t e .as-defined) end (i .if5 .left) (v .check-block2 .ensures .0)) (c .if6 .taken),
-      (λ z. absurd (c .if6 .taken z)),
-    )
-
--- its first branch has been walked
-module _ (t : ℕ) (c : check-rule-lts.Else6 (r-calls t) (check-rule-at t) check-rule.Post) where
-  abbrev check-rule-first-of : check-rule-lts.After-check-block2 (r-calls t) (check-rule-at t) check-rule.Post
-  check-rule-first-of = c .before .before
-
-  abbrev check-rule-first-read : check-rule-lts.After-shared-slice-known (r-calls t) (check-rule-at t) check-rule.Post
-  check-rule-first-read = check-rule-if-read t (check-rule-if-at t (check-rule-first-in t check-rule-first-of))
-
-  abbrev check-rule-first-walked : Further (check-rule-file t check-rule-first-read) (check-rule-counts t check-rule-first-read) (check-rule-if-in t (check-rule-if-at t (check-rule-first-in t check-rule-first-of)) .at) (check-rule-first-end t check-rule-first-of .at) (check-rule-first-end t check-rule-first-of .ledger)
-  check-rule-first-walked = check-rule-first-of .check-block2 .ensures .1 (c .if6 .left) .0
-
-  check-rule-first-closes : AtRule (check-rule-file t check-rule-first-read) (check-rule-counts t check-rule-first-read) (check-rule-first-end t check-rule-first-of .at) (check-rule-first-end t check-rule-first-of .ledger) × Closing (rule-code (check-rule-file t check-rule-first-read) (check-rule-counts t check-rule-first-read) (check-rule-first-end t check-rule-first-of .at))
-  check-rule-first-closes = check-rule-closes t check-rule-first-read (check-rule-first-end t check-rule-first-of) (check-rule-first-walked .stood) (check-rule-first-of .check-block2 .ensures .1 (c .if6 .left) .1)
+    let b = check-rule-first-read t v in
+    let end = check-rule-first-end t v in
+    stops-inside (check-rule-there t b) (check-rule-around t b) end (end .ledger) _ (if-first (check-rule-there t b) (check-rule-around t b) (check-rule-if-entered t (check-rule-first-at t v)) (check-rule-first-in t v .if5 .left) end (v .check-block2 .ensures)) (c .if6 .taken)
 
 check-rule-turn-requires : (t : ℕ) → check-rule-lts.Need-turn-requires (r-calls t) (check-rule-at t) check-rule.Post
-check-rule-turn-requires t c κs = ((_, check-rule-first-closes t c .0), check-rule-first-closes t c .1)
+check-rule-turn-requires t c κs =
+    let v = c .before .before in
+    let (there, code) = closes-inside (check-rule-there t (check-rule-first-read t v)) (v .check-block2 .ensures .1 (c .if6 .left)) in
+    ((_, there), code)
 
 -- what turning it comes to: the ledger is the one at the if
 module _ (t : ℕ) (c : check-rule-lts.After-turn (r-calls t) (check-rule-at t) check-rule.Post) where
-  abbrev check-rule-turn-of : check-rule-lts.Else6 (r-calls t) (check-rule-at t) check-rule.Post
-  check-rule-turn-of = c .before
+  abbrev check-rule-turn-of : check-rule-lts.After-check-block2 (r-calls t) (check-rule-at t) check-rule.Post
+  check-rule-turn-of = c .before .before .before
 
   abbrev check-rule-turn-read : check-rule-lts.After-shared-slice-known (r-calls t) (check-rule-at t) check-rule.Post
   check-rule-turn-read = check-rule-first-read t check-rule-turn-of
 
   abbrev check-rule-turn-end : Taken
-  check-rule-turn-end = check-rule-first-end t (check-rule-first-of t check-rule-turn-of)
+  check-rule-turn-end = check-rule-first-end t check-rule-turn-of
 
   abbrev check-rule-turned : Taken
   check-rule-turned = with-ledger (c .turn .result) (check-rule-ledger t check-rule-turn-read)
 
   check-rule-turns : Turned (check-rule-file t check-rule-turn-read) (check-rule-counts t check-rule-turn-read) (check-rule-turn-end .at) (check-rule-turn-end .ledger) (check-rule-ledger t check-rule-turn-read) check-rule-turned
   check-rule-turns =
-      c .turn .ensures (check-rule-turn-end .ledger) (check-rule-ledger t check-rule-turn-read) (check-rule-first-closes t check-rule-turn-of .0)
-      (bounded-wider (check-rule-start t check-rule-turn-read .pre .1 .1 .bounded) (omega (arith, check-rule-if-onward t (check-rule-first-in t (check-rule-first-of t check-rule-turn-of)) .further-on, check-rule-first-walked t check-rule-turn-of .further-on)))
+      let f = check-rule-turn-of .check-block2 .ensures .1 (c .before .if6 .left) in
+      c .turn .ensures (check-rule-turn-end .ledger) (check-rule-ledger t check-rule-turn-read) (closes-inside (check-rule-there t check-rule-turn-read) f .0)
+      (bounded-wider (check-rule-start t check-rule-turn-read .pre .1 .1 .bounded) (omega (arith, check-rule-if-entered t (check-rule-first-at t check-rule-turn-of) .onward (check-rule-first-in t check-rule-turn-of .if5 .left) .further-on, f .0 .further-on)))
 
 check-rule-returns-6 : (t : ℕ) → check-rule-lts.Need-returns-6 (r-calls t) (check-rule-at t) check-rule.Post
 check-rule-returns-6 t c =
     let o = c .before .before in
-    let w = check-rule-turn-of t o in
-    let v = check-rule-first-of t w in
-    let i = check-rule-first-in t v in
-    let e = check-rule-if-at t i in
-    let b = check-rule-if-read t e in
-    let s = check-rule-start t b in
-    let end = check-rule-first-end t v in (
-      stops-inside (check-rule-file t b) (check-rule-counts t b) (s .args .ls) (check-rule-from t b) (check-rule-turned t o) (end .ledger) _ (if-turned (check-rule-file t b) (check-rule-counts t b) (s .args .ls) (check-rule-from t b) (check-rule-if-in t e) (s .pre .1 .2) (check-rule-if-entered t e .as-defined) end (check-rule-turned t o) (i .if5 .left) (v .check-block2 .ensures .0) (w .if6 .left) (check-rule-first-closes t w .0 .there) (check-rule-turns t o .as-defined)) (c .if7 .taken),
-      (λ z. absurd (c .if7 .taken z)),
-    )
-
--- it has been turned
-module _ (t : ℕ) (c : check-rule-lts.Else7 (r-calls t) (check-rule-at t) check-rule.Post) where
-  abbrev check-rule-turned-at : check-rule-lts.After-turn (r-calls t) (check-rule-at t) check-rule.Post
-  check-rule-turned-at = c .before .before
-
-  abbrev check-rule-turned-onward : Onward (check-rule-counts t (check-rule-turn-read t check-rule-turned-at)) (check-rule-turn-end t check-rule-turned-at .at) (check-rule-turned t check-rule-turned-at)
-  check-rule-turned-onward = check-rule-turns t check-rule-turned-at .onward (c .if7 .left)
+    let v = check-rule-turn-of t o in
+    let b = check-rule-turn-read t o in
+    let end = check-rule-turn-end t o in
+    stops-inside (check-rule-there t b) (check-rule-around t b) (check-rule-turned t o) (end .ledger) _ (if-turned (check-rule-there t b) (check-rule-around t b) (check-rule-if-entered t (check-rule-first-at t v)) (check-rule-first-in t v .if5 .left) end (v .check-block2 .ensures) (o .before .if6 .left) (check-rule-turns t o)) (c .if7 .taken)
 
 check-rule-check-block-requires-3 : (t : ℕ) → check-rule-lts.Need-check-block-requires-3 (r-calls t) (check-rule-at t) check-rule.Post
 check-rule-check-block-requires-3 t c κs =
     let k = c .before .before in
-    let o = check-rule-turned-at t k in
-    let w = check-rule-turn-of t o in
-    let i = check-rule-first-in t (check-rule-first-of t w) in
+    let o = k .before .before in
+    let v = check-rule-turn-of t o in
     let b = check-rule-turn-read t o in
     let s = check-rule-start t b in
     let opens = check-rule-opens t b in
-    let reads = check-rule-turns t o .reads-on (k .if7 .left) (opens .opens) (check-rule-first-walked t w .reads-on (open-if ∷ opens .opens) (check-rule-if-reads t i)) in (
-      omega (arith, s .pre .0, check-rule-if-onward t i .further-on, check-rule-first-walked t w .further-on, check-rule-turned-onward t k .further-on, s .pre .1 .2),
-      (s .pre .1 .0, check-rule-turned-onward t k .stood, s .pre .1 .3, s .pre .1 .4, opens-else (check-rule-file t b) (check-rule-counts t b) (check-rule-from t b .at) (check-rule-turned t o .at) (s .args .ls) opens reads),
+    let z = check-rule-first-in t v .if5 .left in
+    let entered = check-rule-if-entered t (check-rule-first-at t v) in
+    let f = v .check-block2 .ensures .1 (o .before .if6 .left) .0 in
+    let on = check-rule-turns t o .onward (k .if7 .left) in
+    let reads = check-rule-turns t o .reads-on (k .if7 .left) (opens .opens) (f .reads-on (open-if ∷ opens .opens) (entered .reads-on z (opens .opens) (opens .reads-on))) in (
+      omega (arith, s .pre .0, entered .onward z .further-on, f .further-on, on .further-on, s .pre .1 .2),
+      (s .pre .1 .0, on .stood, s .pre .1 .3, s .pre .1 .4, opens-else opens reads),
     )
 
 -- what its second branch comes to
@@ -513,66 +458,38 @@ module _ (t : ℕ) (c : check-rule-lts.After-check-block3 (r-calls t) (check-rul
   abbrev check-rule-second-in : check-rule-lts.Else7 (r-calls t) (check-rule-at t) check-rule.Post
   check-rule-second-in = c .before .before .before
 
+  abbrev check-rule-second-turned : check-rule-lts.After-turn (r-calls t) (check-rule-at t) check-rule.Post
+  check-rule-second-turned = check-rule-second-in .before .before
+
   abbrev check-rule-second-end : Taken
   check-rule-second-end = with-ledger (c .check-block3 .result) (c .check-block3 .last .1 .1 .1 .0)
 
 check-rule-returns-7 : (t : ℕ) → check-rule-lts.Need-returns-7 (r-calls t) (check-rule-at t) check-rule.Post
 check-rule-returns-7 t c =
     let u = c .before .before in
-    let k = check-rule-second-in t u in
-    let o = check-rule-turned-at t k in
-    let w = check-rule-turn-of t o in
-    let v = check-rule-first-of t w in
-    let i = check-rule-first-in t v in
-    let e = check-rule-if-at t i in
-    let b = check-rule-if-read t e in
-    let s = check-rule-start t b in
-    let end = check-rule-second-end t u in (
-      stops-inside (check-rule-file t b) (check-rule-counts t b) (s .args .ls) (check-rule-from t b) end (end .ledger) _ (if-second (check-rule-file t b) (check-rule-counts t b) (s .args .ls) (check-rule-from t b) (check-rule-if-in t e) (s .pre .1 .2) (check-rule-if-entered t e .as-defined) (check-rule-first-end t v) (check-rule-turned t o) (i .if5 .left) (v .check-block2 .ensures .0) (w .if6 .left) (check-rule-first-closes t w .0 .there) (check-rule-turns t o .as-defined) end (k .if7 .left) (u .check-block3 .ensures .0)) (c .if8 .taken),
-      (λ z. absurd (c .if8 .taken z)),
-    )
-
--- its second branch has been walked
-module _ (t : ℕ) (c : check-rule-lts.Else8 (r-calls t) (check-rule-at t) check-rule.Post) where
-  abbrev check-rule-second-of : check-rule-lts.After-check-block3 (r-calls t) (check-rule-at t) check-rule.Post
-  check-rule-second-of = c .before .before
-
-  abbrev check-rule-second-turned : check-rule-lts.After-turn (r-calls t) (check-rule-at t) check-rule.Post
-  check-rule-second-turned = check-rule-turned-at t (check-rule-second-in t check-rule-second-of)
-
-  abbrev check-rule-second-read : check-rule-lts.After-shared-slice-known (r-calls t) (check-rule-at t) check-rule.Post
-  check-rule-second-read = check-rule-turn-read t check-rule-second-turned
-
-  abbrev check-rule-second-walked : Further (check-rule-file t check-rule-second-read) (check-rule-counts t check-rule-second-read) (check-rule-turned t check-rule-second-turned .at) (check-rule-second-end t check-rule-second-of .at) (check-rule-second-end t check-rule-second-of .ledger)
-  check-rule-second-walked = check-rule-second-of .check-block3 .ensures .1 (c .if8 .left) .0
-
-  check-rule-second-closes : AtRule (check-rule-file t check-rule-second-read) (check-rule-counts t check-rule-second-read) (check-rule-second-end t check-rule-second-of .at) (check-rule-second-end t check-rule-second-of .ledger) × Closing (rule-code (check-rule-file t check-rule-second-read) (check-rule-counts t check-rule-second-read) (check-rule-second-end t check-rule-second-of .at))
-  check-rule-second-closes = check-rule-closes t check-rule-second-read (check-rule-second-end t check-rule-second-of) (check-rule-second-walked .stood) (check-rule-second-of .check-block3 .ensures .1 (c .if8 .left) .1)
+    let o = check-rule-second-turned t u in
+    let v = check-rule-turn-of t o in
+    let b = check-rule-turn-read t o in
+    let end = check-rule-second-end t u in
+    stops-inside (check-rule-there t b) (check-rule-around t b) end (end .ledger) _ (if-second (check-rule-there t b) (check-rule-around t b) (check-rule-if-entered t (check-rule-first-at t v)) (check-rule-first-in t v .if5 .left) (check-rule-first-end t v) (v .check-block2 .ensures) (o .before .if6 .left) (check-rule-turns t o) (check-rule-second-in t u .if7 .left) (check-rule-second-end t u) (u .check-block3 .ensures)) (c .if8 .taken)
 
 check-rule-leave-if-requires : (t : ℕ) → check-rule-lts.Need-leave-if-requires (r-calls t) (check-rule-at t) check-rule.Post
 check-rule-leave-if-requires t c κs =
     let x = c .before .before in
-    let k = check-rule-second-in t (check-rule-second-of t x) in
-    let w = check-rule-turn-of t (check-rule-second-turned t x) in
-    (check-rule-second-closes t x .0, check-rule-second-closes t x .1, bounded-wider (check-rule-first-walked t w .stood .bounded) (omega (arith, check-rule-turned-onward t k .further-on, check-rule-second-walked t x .further-on)))
+    let u = x .before .before in
+    let o = check-rule-second-turned t u in
+    let f = u .check-block3 .ensures .1 (x .if8 .left) in
+    let (there, code) = closes-inside (check-rule-there t (check-rule-turn-read t o)) f in
+    (there, code, bounded-wider (check-rule-turn-of t o .check-block2 .ensures .1 (o .before .if6 .left) .0 .stood .bounded) (omega (arith, check-rule-turns t o .onward (check-rule-second-in t u .if7 .left) .further-on, f .0 .further-on)))
 
 check-rule-returns-8 : (t : ℕ) → check-rule-lts.Need-returns-8 (r-calls t) (check-rule-at t) check-rule.Post
 check-rule-returns-8 t c =
     let x = c .before .before .before in
-    let u = check-rule-second-of t x in
-    let k = check-rule-second-in t u in
-    let o = check-rule-turned-at t k in
-    let w = check-rule-turn-of t o in
-    let v = check-rule-first-of t w in
-    let i = check-rule-first-in t v in
-    let e = check-rule-if-at t i in
-    let b = check-rule-if-read t e in
-    let s = check-rule-start t b in
-    let r = c .leave-if in
-    let left = with-ledger (r .result) (r .last .1 .1 .1 .0) in (
-      if-left (check-rule-file t b) (check-rule-counts t b) (s .args .ls) (check-rule-from t b) (check-rule-if-in t e) (s .pre .1 .2) (check-rule-if-entered t e .as-defined) (check-rule-first-end t v) (check-rule-turned t o) (i .if5 .left) (v .check-block2 .ensures .0) (w .if6 .left) (check-rule-first-closes t w .0 .there) (check-rule-turns t o .as-defined) (check-rule-second-end t u) left (k .if7 .left) (u .check-block3 .ensures .0) (x .if8 .left) (check-rule-second-closes t x .0 .there) (r .ensures .as-defined),
-      (λ z. further-if (check-rule-file t b) (check-rule-counts t b) (check-rule-from t b .at) (check-rule-if-in t e) (check-rule-first-end t v) (check-rule-turned t o) (check-rule-second-end t u) left (check-rule-if-onward t i) (check-rule-if-entered t e .reads-on (i .if5 .left)) (check-rule-first-walked t w) (check-rule-turned-onward t k) (check-rule-turns t o .reads-on (k .if7 .left)) (check-rule-second-walked t x) (r .ensures .onward z) (r .ensures .reads-on z)),
-    )
+    let u = x .before .before in
+    let o = check-rule-second-turned t u in
+    let v = check-rule-turn-of t o in
+    let b = check-rule-turn-read t o in
+    if-left (check-rule-there t b) (check-rule-around t b) (check-rule-if-entered t (check-rule-first-at t v)) (check-rule-first-in t v .if5 .left) (check-rule-first-end t v) (v .check-block2 .ensures) (o .before .if6 .left) (check-rule-turns t o) (check-rule-second-in t u .if7 .left) (check-rule-second-end t u) (u .check-block3 .ensures) (x .if8 .left) (c .leave-if .ensures)
 
 -- ---- any other rule
 

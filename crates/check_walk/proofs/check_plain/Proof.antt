@@ -4,15 +4,14 @@ use mathlib.Core.Path.{_≡_, refl, sym, ap, subst, _∙_}
 use mathlib.Core.Logic.{_⊎_, inl, inr}
 use mathlib.Core.List.{List}
 use native.Mathlib.Omega.{arith}
-use lib.IntN.{ℤ}
 use borrow.Author.Needs.{needs}
 use Rattle.forms.specs.Code.{loops}
 use Rattle.kernel.specs.Derivation as S
 use Rattle.parts.specs.declared.Counts.{Counts}
-use Rattle.check_take.specs.View.{Taken, standing, with-ledger, rule-code, Plain}
+use Rattle.check_take.specs.View.{Taken, standing, with-ledger, rule-code, Plain, AtRule}
 use Rattle.check_walk.specs.View.{Goes, Further, RuleWalked}
-use Rattle.check_walk.proofs.Walks.{goes-none, goes-rule, goes-then}
-use Rattle.check_walk.proofs.Stretches.{between-blocks, not-plain, further-none, further-then, further-rule}
+use Rattle.check_walk.proofs.Walks.{goes-none, goes-then}
+use Rattle.check_walk.proofs.Stretches.{between-blocks, not-plain, further-none, further-then, plain-walked}
 use Rattle.check_walk.proofs.check_plain.Statement.{statement}
 use Rattle.check_walk.proofs.check_plain.Tie as tie
 
@@ -52,25 +51,33 @@ module _ (c : tie.At-loop Inv-loop μ-loop) where
   walked-here : start .args .from .rule < c .loop .at .rule → (r : Taken) → r ≡ here → Walked r
   walked-here h r e = subst Walked (sym e) (c .loop .inv .1, λ z. (c .loop .inv .0, h))
 
--- a plain rule has been taken
-module _ (c : tie.After-plain Inv-loop μ-loop) where
+-- at a rule, whose code has been read
+module _ (c : tie.After-between Inv-loop μ-loop) where
   abbrev turn : tie.At-loop Inv-loop μ-loop
-  turn = c .before .before .before .before .before .before .before .before
+  turn = c .before .before .before .before .before
 
-  abbrev there : turn .loop .at .rule < counts turn .d
-  there = c .before .before .before .before .before .if1 .taken
+  there : AtRule (file turn) (counts turn) (turn .loop .at) (turn .loop .l)
+  there = record { reads = start turn .pre .0; stood = turn .loop .inv .0 .stood; there = c .before .before .if1 .taken }
+
+-- it is plain, and has been taken
+module _ (c : tie.After-plain Inv-loop μ-loop) where
+  abbrev read : tie.After-between Inv-loop μ-loop
+  read = c .before .before .before
 
   abbrev after : Taken
   after = with-ledger (c .plain .result) (c .plain .last .1 .1 .1 .0)
 
-  goes : (os : List S.Opened) → S.loops os ≡ loops (start turn .args .ls) → Goes (file turn) (counts turn) os (from turn) os after
-  goes os k = goes-then (file turn) (counts turn) os os os (from turn) (here turn) after (turn .loop .inv .1 os k) refl (goes-rule (file turn) (counts turn) os os (here turn) after there (c .plain .ensures .as-defined os k))
+  walked : RuleWalked (file (turn read)) (counts (turn read)) (loops (start (turn read) .args .ls)) (here (turn read)) after
+  walked = plain-walked (there read) (start (turn read) .args .ls) (c .plain .ensures)
+
+  goes : (os : List S.Opened) → S.loops os ≡ loops (start (turn read) .args .ls) → Goes (file (turn read)) (counts (turn read)) os (from (turn read)) os after
+  goes os k = goes-then (file (turn read)) (counts (turn read)) os os os (from (turn read)) (here (turn read)) after (turn read .loop .inv .1 os k) refl (walked .0 os k)
 
 loop-holds : tie.Need-loop-holds Inv-loop μ-loop
 loop-holds c =
     let a = c .before .args in
     let p = c .before .pre in
-    (further-none (a .file .now) (a .c) (a .from) (a .l .now) (p .1), (λ os k. goes-none (a .file .now) (a .c) os (standing (a .from) (a .l .now)) refl), inr (p .4))
+    (further-none (p .1), (λ os k. goes-none (a .file .now) (a .c) os (standing (a .from) (a .l .now)) refl), inr (p .4))
 
 code-next-requires : tie.Need-code-next-requires Inv-loop μ-loop
 code-next-requires c κs = (start (c .before .before .before) .pre .0, c .if1 .taken)
@@ -84,7 +91,7 @@ stays-requires c κs = search needs
 returns : tie.Need-returns Inv-loop μ-loop
 returns c =
     let k = c .before .before in
-    let b = k .before .before .before .before .before in
+    let b = turn k in
     let n = k .before .code-next in
     let between = sym (k .between .ensures) ∙ c .before .if2 .taken in
     walked-here b (past-it (b .loop .inv .2) (λ p. not-plain (n .result) between (subst Plain (sym (n .ensures)) p))) _ (ap (λ r. with-ledger r (b .loop .l)) (c .stays .ensures))
@@ -92,10 +99,8 @@ returns c =
 plain-requires : tie.Need-plain-requires Inv-loop μ-loop
 plain-requires c κs =
     let k = c .before .before in
-    let b = k .before .before .before .before .before in
-    let p = start b .pre in
     let n = k .before .code-next in
-    (record { reads = p .0; stood = b .loop .inv .0 .stood; there = k .before .before .if1 .taken }, p .3, n .ensures, between-blocks (n .result) (sym (k .between .ensures) ∙ c .before .if2 .left))
+    (there k, start (turn k) .pre .3, n .ensures, between-blocks (n .result) (sym (k .between .ensures) ∙ c .before .if2 .left))
 
 returns-2 : tie.Need-returns-2 Inv-loop μ-loop
 returns-2 c = (goes (c .before .before), λ z. absurd (c .if3 .taken z))
@@ -103,15 +108,15 @@ returns-2 c = (goes (c .before .before), λ z. absurd (c .if3 .taken z))
 loop-less : tie.Need-loop-less Inv-loop μ-loop
 loop-less c =
     let r = c .before .before .before in
-    omega (arith, there r, r .plain .ensures .onward (c .before .if3 .left) .further-on)
+    omega (arith, there (read r) .there, walked r .1 (c .before .if3 .left) .1)
 
 loop-again : tie.Need-loop-again Inv-loop μ-loop
 loop-again c =
     let r = c .before .before .before in
-    let b = turn r in
+    let b = turn (read r) in
     let z = c .before .if3 .left in
-    let f = further-rule (file b) (counts b) (b .loop .at) (after r) (r .plain .ensures .onward z) (r .plain .ensures .reads-on z) in (
-      further-then (file b) (counts b) (start b .args .from) (b .loop .at) (after r .at) (b .loop .l) (after r .ledger) (b .loop .inv .0) (f .0),
+    let f = walked r .1 z in (
+      further-then (b .loop .inv .0) (f .0),
       (λ os k. subst (λ n. Goes (file b) (counts b) os (from b) os (record { number = n; at = after r .at; ledger = after r .ledger })) z (goes r os k)),
       inl (omega (arith, b .loop .inv .0 .further-on, f .1)),
     )

@@ -1,9 +1,6 @@
 -- `check_walk::over` meets its contract: 17 and 18 as the definition finds them where the derivation is over.
-use mathlib.Core.Path.{ap, _∙_}
-use mathlib.Core.Bool.{not}
-use native.Mathlib.Omega.{arith}
 use borrow.Author.Needs.{needs}
-use Rattle.check_take.specs.View.{Taken, standing, with-ledger}
+use Rattle.check_take.specs.View.{standing}
 use Rattle.check_walk.proofs.Walks.{stands, over-array, over-stream, over-block, rests-over}
 use Rattle.check_walk.proofs.over.Statement.{statement}
 use Rattle.check_walk.proofs.over.Tie as tie
@@ -14,8 +11,7 @@ stays-requires c κs = search needs
 returns : tie.Need-returns
 returns c file l =
     let s = c .before .before .before .before in
-    let e = ap (λ r. with-ledger r l) (c .stays .ensures) in
-    ((λ os o. over-array file (s .args .c) os (standing (s .args .at) l) _ (s .pre) (c .before .if1 .taken) e), λ z. absurd (omega (arith, z, ap (λ (r : Taken). r .number) e)))
+    over-array file (s .args .c) (s .args .inside) (standing (s .args .at) l) (s .pre) (c .before .if1 .taken) (c .stays .ensures)
 
 stays-requires-2 : tie.Need-stays-requires-2
 stays-requires-2 c κs = search needs
@@ -23,8 +19,7 @@ stays-requires-2 c κs = search needs
 returns-2 : tie.Need-returns-2
 returns-2 c file l =
     let s = c .before .before .before .before .before .before .before in
-    let e = ap (λ r. with-ledger r l) (c .stays2 .ensures) in
-    ((λ os o. over-stream file (s .args .c) os (standing (s .args .at) l) _ (s .pre) (c .before .before .before .before .if1 .left) (c .before .if2 .taken) e), λ z. absurd (omega (arith, z, ap (λ (r : Taken). r .number) e)))
+    over-stream file (s .args .c) (s .args .inside) (standing (s .args .at) l) (s .pre) (c .before .before .before .before .if1 .left) (c .before .if2 .taken) (c .stays2 .ensures)
 
 stays-requires-3 : tie.Need-stays-requires-3
 stays-requires-3 c κs = search needs
@@ -32,8 +27,7 @@ stays-requires-3 c κs = search needs
 returns-3 : tie.Need-returns-3
 returns-3 c file l =
     let s = c .before .before .before .before .before .before .before .before in
-    let e = ap (λ r. with-ledger r l) (c .stays3 .ensures) in
-    ((λ os o. over-block file (s .args .c) os (standing (s .args .at) l) _ (s .pre) (c .before .before .before .before .before .if1 .left) (c .before .before .if2 .left) (o ∙ ap not (c .before .if3 .taken)) e), λ z. absurd (omega (arith, z, ap (λ (r : Taken). r .number) e)))
+    over-block file (s .args .c) (s .args .inside) (standing (s .args .at) l) (s .pre) (c .before .before .before .before .before .if1 .left) (c .before .before .if2 .left) (c .before .if3 .taken) (c .stays3 .ensures)
 
 stays-requires-4 : tie.Need-stays-requires-4
 stays-requires-4 c κs = search needs
@@ -41,8 +35,7 @@ stays-requires-4 c κs = search needs
 returns-4 : tie.Need-returns-4
 returns-4 c file l =
     let s = c .before .before .before .before .before .before .before .before in
-    let e = ap (λ r. with-ledger r l) (c .stays4 .ensures) in
-    stands file (s .args .c) (s .args .inside) (s .args .at) l _ e (rests-over file (s .args .c) (s .args .inside) (s .args .at) (c .before .if3 .left) (s .pre) (c .before .before .before .before .before .if1 .left) (c .before .before .if2 .left))
+    stands file (s .args .c) (s .args .inside) (s .args .at) l (c .stays4 .ensures) (rests-over file (s .args .c) (s .args .inside) (s .args .at) (c .before .if3 .left) (s .pre) (c .before .before .before .before .before .if1 .left) (c .before .before .if2 .left))
 
 pub over-spec : {M : Type 1} → statement M
 over-spec =
