@@ -153,9 +153,7 @@ impl Ledger {
     }
 }
 
-// Ledgers compared, with the loops around: of each, the first a positions and the first b buffers count.
-
-// ---- tests
+// ---- tests: two ledgers compared, with the loops around; of each, the first a positions and the first b buffers count
 
 // Whether two ledgers have the same positions.
 pub fn same_positions(l: &Entries, m: &Entries, a: usize, around: Loops) -> bool

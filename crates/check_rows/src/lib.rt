@@ -104,7 +104,7 @@ fn row_held(r: Rec) -> Held
 // The first n positions become those that rows from record `from` on state.
 fn positions(file: &[u8], part: Part, from: usize, n: usize, rows: &mut Entries)
     requires { ⌜ Lies 1024 (now file) part × (from + n ≤ part .count) × (n ≤ 8) × SmallForms (records-in (now file) part) × Stated (now rows) ⌝ }
-    ensures { λ _. ⌜ (View.positions-of n (now (rows .exit)) ≡ map File.form (take n (drop from (records-in (now (file .entry)) part)))) × Stated (now (rows .exit)) ⌝ }
+    ensures { λ _. ⌜ (View.positions-of n (now (rows .exit)) ≡ map File.form (take n (drop from (records-in (now (file .entry)) part)))) × (View.buffers (now (rows .exit)) ≡ View.buffers (now (rows .entry))) × Stated (now (rows .exit)) ⌝ }
 {
     let mut i = 0;
     while i < n {
@@ -255,7 +255,7 @@ pub fn rows_true(
 // The first a positions of a ledger become those of the rows.
 fn positions_left(rows: &Entries, level: usize, change: Change, a: usize, l: &mut Entries)
     requires { ⌜ Stated (now rows) × Small (2 ^ 16) (amount change) × (a ≤ 8) × ((n : ℕ) × Bounded n (now l)) ⌝ }
-    ensures { λ _. ⌜ (View.positions-of a (now (l .exit)) ≡ map (with-change level change) (View.positions-of a (now (rows .entry)))) × ((n : ℕ) → Bounded n (now (l .entry)) → Bounded n (now (l .exit))) ⌝ }
+    ensures { λ _. ⌜ (View.positions-of a (now (l .exit)) ≡ map (with-change level change) (View.positions-of a (now (rows .entry)))) × (View.buffers (now (l .exit)) ≡ View.buffers (now (l .entry))) × ((n : ℕ) → Bounded n (now (l .entry)) → Bounded n (now (l .exit))) ⌝ }
 {
     let mut i = 0;
     while i < a {

@@ -52,10 +52,6 @@ taken a b os t =
 abbrev pub standing : Place → List ℤ → Taken
 standing at l = record { number = 0; at = at; ledger = l }
 
--- refused where it stands
-abbrev pub refusal : Place → List ℤ → (number : ℕ) → Taken
-refusal at l number = record { number = number; at = at; ledger = l }
-
 -- past one rule, so many statements of the array program and one of the stream program
 abbrev pub further : Place → (arrays : ℕ) → Place
 further at arrays = record { rule = at .rule + 1; array = at .array + arrays; stream = at .stream + 1 }

@@ -19,9 +19,9 @@ use Rattle.kernel.specs.Check.{no-block}
 use Rattle.parts.specs.declared.Counts.{Counts}
 use Rattle.check_ledger.specs.View.{ledger}
 use Rattle.check_take.specs.declared.Place.{Place}
-use Rattle.check_take.specs.View.{Taken, standing, refusal, Stood, AtRule, Onward, rule-code, loop-there, TakesRule, Closing, Plain, ReadsOn, Enters, TakenPlain, EnteredFor, LeftFor, EnteredIf, Turned, LeftIf}
+use Rattle.check_take.specs.View.{Taken, standing, Stood, AtRule, Onward, rule-code, loop-there, TakesRule, Closing, Plain, ReadsOn, Enters, TakenPlain, EnteredFor, LeftFor, EnteredIf, Turned, LeftIf}
 use Rattle.check_walk.specs.View.{Goes, Rests, Further, Opens, BlockWalked, RuleWalked}
-use Rattle.check_walk.proofs.Walks.{goes-rule, goes-then, goes-stop, comes-inside}
+use Rattle.check_walk.proofs.Walks.{refusal, goes-rule, goes-then, goes-stop, comes-inside}
 
 -- ---- codes
 

@@ -20,11 +20,15 @@ use Rattle.parts.specs.declared.Counts.{Counts}
 use Rattle.parts.specs.Parts.{kernel}
 use Rattle.check_take.specs.declared.Place.{Place as At}
 use Rattle.check_take.specs.declared.Reached.{Reached}
-use Rattle.check_take.specs.View.{Taken, place, standing, taken, with-ledger, refusal, rule-code, TakesRule, Closing}
+use Rattle.check_take.specs.View.{Taken, place, standing, taken, with-ledger, rule-code, TakesRule, Closing}
 use Rattle.check_take.proofs.Comes.{misplaced}
 use Rattle.check_take.proofs.Taking.{refuses}
 use Rattle.parts.proofs.Parts.{array-count, stream-count, rule-count}
 use Rattle.check_walk.specs.View.{Goes, Rests, Stops}
+
+-- refused there, whatever the ledger is then
+abbrev pub refusal : At → List ℤ → (number : ℕ) → Taken
+refusal at l number = record { number = number; at = at; ledger = l }
 
 module _ (file : List ℕ) (c : Counts) where
   abbrev K : Kernel

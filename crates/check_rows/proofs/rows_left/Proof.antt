@@ -15,7 +15,7 @@ positions-left-requires c κs = search needs
 buffers-left-requires : tie.Need-buffers-left-requires
 buffers-left-requires c κs =
     let s = c .before .before .before in
-    (s .pre .0, s .pre .1, s .pre .3, c .before .positions-left .ensures .1 _ (s .pre .4 .1) .whole)
+    (s .pre .0, s .pre .1, s .pre .3, c .before .positions-left .ensures .2 _ (s .pre .4 .1) .whole)
 
 returns : tie.Need-returns
 returns c =
@@ -23,7 +23,7 @@ returns c =
     let p = c .before .before .positions-left .ensures in
     let q = c .buffers-left .ensures in (
       each-right _ (s .a) (s .b) (s .rows .now) _ (ap (λ ps. map form (take (s .a) ps)) (q .1) ∙ p .0) (q .0),
-      λ n h. bounded-same (p .1 n h) (q .2) (q .1),
+      λ n h. bounded-same (p .2 n h) (q .2) (q .1),
     )
 
 pub rows-left-spec : {M : Type 1} → statement M
