@@ -1,4 +1,6 @@
 // The check of a file: reading, the walk over the derivation, and the counts.
+#![tactic(auto)]
+
 ghost use Rattle.std.specs.Prelude.{◌≡◌, ◌^◌, ◌<◌};
 ghost use Rattle.kernel.specs.File as File;
 ghost use Rattle.kernel.specs.Ledger as L;
@@ -18,7 +20,7 @@ use parts::Counts;
 use read_counts::Read;
 
 // A refusal by the check, at the next records of derivation, array program and stream program.
-#[derive(Drop)]
+#[derive(Clone, Copy)]
 pub struct Refusal {
     pub number: u8,
     pub rule: u16,
@@ -26,7 +28,7 @@ pub struct Refusal {
     pub stream: u16,
 }
 
-#[derive(Drop)]
+#[derive(Clone, Copy)]
 pub enum Checked {
     Accepted,
     // number, section, record

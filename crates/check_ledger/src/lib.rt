@@ -1,5 +1,7 @@
 // The ledger: for each stream a position, for each buffer an input array and an index form, or nothing. It is kept in one place while rules are
 // taken, a row of numbers that is lent; a step takes it by value and hands back the new one.
+#![tactic(auto)]
+
 ghost use Rattle.std.specs.Prelude.{◌≡◌, ℕ, ◌+◌, ◌^◌, ◌<◌, ◌≤◌, get_or, pos};
 ghost use Rattle.numbers.specs.Bounds.{Small};
 ghost use Rattle.forms.specs.Code.{loops};
@@ -13,7 +15,7 @@ use forms::{Form, Loops};
 pub type Entries = [i64; 144];
 
 // What a buffer holds: one more than an input array's number, and an index form; 0 for nothing.
-#[derive(Drop)]
+#[derive(Clone, Copy)]
 pub struct Held {
     pub number: i64,
     pub index: Form,
@@ -111,7 +113,7 @@ pub fn fresh() -> Entries
 
 // ---- steps
 
-#[derive(Drop)]
+#[derive(Clone, Copy)]
 pub struct Ledger {
     pub entries: Entries,
 }

@@ -1,4 +1,6 @@
 // Hold rows: whether they fit, the ledger that they state, and, with a counter put or moved in them, whether they are true and what they leave.
+#![tactic(auto)]
+
 ghost use Rattle.std.specs.Prelude.{◌≡◌, ◌&&◌, map, ℕ, ◌+◌, ◌^◌, ◌≤◌, eqb, take, drop};
 ghost use Rattle.numbers.specs.Bounds.{Small};
 ghost use Rattle.numbers.specs.Lists.{alike};
@@ -132,7 +134,7 @@ pub fn state(file: &[u8], part: Part, rule: usize, a: usize, b: usize, rows: &mu
 // ---- the counter of a level changed in them
 
 // The counter is put at a value, or goes a step on.
-#[derive(Drop)]
+#[derive(Clone, Copy)]
 pub enum Change {
     At(i64),
     By(i64),

@@ -1,4 +1,6 @@
 // A line of the table of rules: whether it fits the next statements of both programs, what it asks of the ledger, and what it makes of it.
+#![tactic(auto)]
+
 ghost use Rattle.std.specs.Prelude.{◌≡◌, ◌&&◌, ◌⊎◌, ℕ, ◌+◌, ◌^◌, ◌<◌, ◌≤◌, eqb, leb};
 ghost use Rattle.numbers.specs.Words.{between};
 ghost use Rattle.numbers.specs.Lists.{alike};

@@ -1,4 +1,6 @@
 // Where the walk stands, and the rules taken from there with the lent ledger; a for and an if in parts: entered, turned at the else, left.
+#![tactic(auto)]
+
 ghost use Rattle.std.specs.Prelude.{◌≡◌, ◌&&◌, List, ℕ, ◌≤◌, ◌<◌, eqb, ℤ};
 ghost use Rattle.forms.specs.Code.{loop, loops, Turning};
 ghost use Rattle.kernel.specs.Derivation as Derivation;
@@ -17,7 +19,7 @@ use forms::{Loop, Loops};
 use parts::{Counts, Rec};
 
 // The next record of each section that no rule has taken.
-#[derive(Drop)]
+#[derive(Clone, Copy)]
 pub struct Place {
     pub rule: usize,
     pub array: usize,
@@ -25,7 +27,7 @@ pub struct Place {
 }
 
 // What comes of a rule: number 0, and where the derivation goes on; or the number that refuses it, and where it stands.
-#[derive(Drop)]
+#[derive(Clone, Copy)]
 pub struct Reached {
     pub number: u8,
     pub at: Place,

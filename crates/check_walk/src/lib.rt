@@ -1,4 +1,6 @@
 // The walk over the derivation: check of a block and check of a rule call each other, derivation records left falling.
+#![tactic(auto)]
+
 ghost use Rattle.std.specs.Prelude.{List, ℕ, ◌≤◌, ◌<◌, ℤ};
 ghost use Rattle.forms.specs.Code.{loops, Turning};
 ghost use Rattle.parts.specs.Parts.{ReadAs};

@@ -2,7 +2,7 @@
 use mathlib.Core.Path.{◌≡◌, refl, ap, ◌∙◌}
 use mathlib.Core.Bool.{Bool, true, false, cond}
 use mathlib.Core.List.{[], ◌∷◌}
-use Prim.Native.Nat.{ℕ, zero, suc, ◌^◌, ◌<◌}
+use Prim.Native.Nat.{ℕ, zero, suc, ◌^◌, ◌<◌, ◌≤◌}
 use lib.Dec.{ltb}
 use lib.ListN.{take, drop}
 use lib.IntN.{ℤ, pos, ◌+ℤ◌, ◌*ℤ◌, +ℤ_idr}
@@ -33,17 +33,14 @@ together f g e = eq_equal (same_bits f g e)
 -- ---- levels
 
 -- what the last arm of a match on 0 to 3 knows
-abbrev pub PastFour : ℕ → Type 0
-PastFour n = (((Unit {0} × (n ≡ 0 → ⊥)) × (n ≡ 1 → ⊥)) × (n ≡ 2 → ⊥)) × (n ≡ 3 → ⊥)
-
-pub past_four : (P : ℕ → Type 0) → ((n : ℕ) → P (suc (suc (suc (suc n))))) → (n : ℕ) → PastFour n → P n
-past_four P f zero h = absurd (h.0.0.0.1 refl)
-past_four P f (suc zero) h = absurd (h.0.0.1 refl)
-past_four P f (suc (suc zero)) h = absurd (h.0.1 refl)
-past_four P f (suc (suc (suc zero))) h = absurd (h.1 refl)
+pub past_four : (P : ℕ → Type 0) → ((n : ℕ) → P (suc (suc (suc (suc n))))) → (n : ℕ) → 4 ≤ n → P n
+past_four P f zero h = absurd (omega arith)
+past_four P f (suc zero) h = absurd (omega arith)
+past_four P f (suc (suc zero)) h = absurd (omega arith)
+past_four P f (suc (suc (suc zero))) h = absurd (omega arith)
 past_four P f (suc (suc (suc (suc n)))) h = f n
 
-pub nothing_past : (n : ℕ) (f : Form) → PastFour n → true ≡ F.around n (form f)
+pub nothing_past : (n : ℕ) (f : Form) → 4 ≤ n → true ≡ F.around n (form f)
 unfolding F.around every
 nothing_past n f = past_four (λ n. true ≡ F.around n (form f)) none n
   where

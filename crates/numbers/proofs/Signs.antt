@@ -84,7 +84,7 @@ module _ {A B : ℕ} {a b : ℤ} (h : Small A a) (k : Small B b) where
 
 -- a callee's result, from its `ok`
 pub as_returned : {z : ℤ} → mag z < 2 ^ 63 → back z ≡ z
-as_returned p = to_z-of_z (record { sfits = p })
+as_returned p = to_z-of_z {w = w64} (record { sfits = p })
 
 -- a test `==` of two signed locals is one of their bits
 pub same_bits : {a b : ℤ} → SFits w64 a → SFits w64 b → of_z w64 a ≡ of_z w64 b → a ≡ b

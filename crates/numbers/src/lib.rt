@@ -1,4 +1,6 @@
 // 32-bit words: a byte area as a row of them, and what registers do with them.
+#![tactic(auto)]
+
 ghost use Rattle.std.specs.Prelude.{◌≡◌, ◌+◌, ◌*◌, ◌<◌, ◌≤◌, length, slice_index};
 ghost use Rattle.numbers.specs.Words as Words;
 ghost use Rattle.numbers.specs.Areas as Areas;

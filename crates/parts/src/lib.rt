@@ -1,4 +1,6 @@
 // What stands where in a kernel file that reads: its counts, its parts, a record, and what a record says: an index form, a loop, an array.
+#![tactic(auto)]
+
 ghost use Rattle.std.specs.Prelude.{◌≡◌, ◌+◌, ◌*◌, ◌/◌, ◌<◌, ◌≤◌, length, get_or, drop, ◌-ℤ◌};
 ghost use Rattle.numbers.specs.Words.{signed};
 ghost use Rattle.forms.specs.Code.{form, loop};
@@ -13,7 +15,7 @@ use forms::{Form, Loop};
 // ---- the parts of a file
 
 // The counts of a kernel file, by document 01's letters: registers, buffers, arrays, the two programs' statements, derivation.
-#[derive(Drop)]
+#[derive(Clone, Copy)]
 pub struct Counts {
     pub r: usize,
     pub b: usize,
@@ -24,7 +26,7 @@ pub struct Counts {
 }
 
 // Where the first of a section's records begins, in numbers, and how many there are.
-#[derive(Drop)]
+#[derive(Clone, Copy)]
 pub struct Part {
     pub at: usize,
     pub count: usize,
@@ -68,7 +70,7 @@ pub fn derivation_part(c: Counts) -> Part
 
 // ---- records
 
-#[derive(Drop)]
+#[derive(Clone, Copy)]
 pub struct Rec {
     pub code: u32,
     pub p: u32,
@@ -227,7 +229,7 @@ pub fn step_of(file: &[u8], j: usize) -> i64
 }
 
 // What an array is measured by: its cells in an array memory, its items in a stream memory.
-#[derive(Drop)]
+#[derive(Clone, Copy)]
 pub enum Measure {
     Cells,
     Items,

@@ -1,4 +1,6 @@
 // The blocks that are open where a program is read, and what each statement makes of them.
+#![tactic(auto)]
+
 ghost use Rattle.std.specs.Prelude.{◌≡◌, [], ◌∷◌, ◌≤◌};
 ghost use Rattle.forms.specs.Code.{form};
 ghost use Rattle.kernel.specs.File as File;
@@ -10,7 +12,7 @@ use parts::Rec;
 
 // The open blocks, outermost first, at most eight: 0 for an if's before its else, 1 for one after it, n + 2 for a for's of n passes. The loops
 // among them and their passes multiplied are kept beside. A number that is not 0 is the refusal of a statement.
-#[derive(Drop)]
+#[derive(Clone, Copy)]
 pub struct OpenBlocks {
     pub number: u8,
     pub depth: usize,

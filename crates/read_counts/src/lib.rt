@@ -1,4 +1,6 @@
 // The counts of a kernel file: one reader over the lent bytes, and each section's count and length as met.
+#![tactic(auto)]
+
 ghost use Rattle.std.specs.Prelude.{◌≡◌, ◌+◌, ◌*◌, ◌/◌, ◌≤◌, ◌<◌, length, drop};
 ghost use Rattle.numbers.specs.Words.{words};
 ghost use Rattle.kernel.specs.Reading as Reading;
@@ -8,14 +10,14 @@ use parts::Counts;
 
 // ---- the reader
 
-#[derive(Drop)]
+#[derive(Clone, Copy)]
 pub struct Reader<'a> {
     pub file: &'a [u8],
     pub place: usize,
 }
 
 // What stands at a place: a number's 32 bits, or the file's end.
-#[derive(Drop)]
+#[derive(Clone, Copy)]
 pub enum Step {
     Number(u32),
     End,
@@ -53,7 +55,7 @@ pub fn number_at(file: &[u8], place: usize) -> Step
 // ---- counts, as met
 
 // A count and the place after what it counts; or, where the number is not 0, a refusal with its section.
-#[derive(Drop)]
+#[derive(Clone, Copy)]
 pub struct Found {
     pub number: u8,
     pub section: u8,
@@ -130,7 +132,7 @@ fn section_at(file: &[u8], section: u8, place: usize, low: u32, high: u32) -> Fo
     }
 }
 
-#[derive(Drop)]
+#[derive(Clone, Copy)]
 pub enum Read {
     Kernel(Counts),
     // number, section, record

@@ -1,4 +1,6 @@
 // Reading a kernel file: from the lent bytes to its counts, or the first refusal.
+#![tactic(auto)]
+
 ghost use Rattle.std.specs.Prelude.{◌≡◌, [], ◌+◌, ◌*◌, ◌%◌, ◌≤◌, length};
 ghost use Rattle.numbers.specs.Result.{ok};
 ghost use Rattle.numbers.specs.Words.{words};
@@ -15,7 +17,7 @@ use read_counts::Read;
 use read_records::Scope;
 
 // The number and the place of a section's first refusal; number 0 where there is none.
-#[derive(Drop)]
+#[derive(Clone, Copy)]
 pub struct Fault {
     pub number: u8,
     pub place: u16,

@@ -1,4 +1,6 @@
 // Whether one record is a statement, by document 01's table of what its fields may hold; an array; or a record of the derivation.
+#![tactic(auto)]
+
 ghost use Rattle.std.specs.Prelude.{◌≡◌, ◌+◌, ◌*◌, ◌/◌, ◌≤◌, ◌<◌, ◌-◌, pos, ◌+ℤ◌, ◌*ℤ◌, length, drop, ◌&&◌, ◌||◌, [], ◌∷◌, eqb, ltb};
 ghost use Rattle.numbers.specs.Words as Words;
 ghost use Rattle.kernel.specs.Reading as Reading;
@@ -89,7 +91,7 @@ fn kind(kinds: &[[u8; 8]; 11], code: u32, field: usize) -> u8
 }
 
 // What a program's fields are held to: whether it is the stream program, its registers, and how many arrays the file has.
-#[derive(Drop)]
+#[derive(Clone, Copy)]
 pub struct Scope {
     pub streaming: bool,
     pub registers: u32,

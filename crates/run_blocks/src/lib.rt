@@ -1,4 +1,6 @@
 // The machine: run of a block and run of a statement call each other, nesting and passes left falling.
+#![tactic(auto)]
+
 ghost use Rattle.std.specs.Prelude.{◌≡◌, ◌<◌, get_or};
 ghost use Rattle.numbers.specs.Words.{words};
 ghost use Rattle.kernel.specs.File as File;
@@ -14,7 +16,7 @@ use parts::Part;
 use run_loops::Counters;
 
 // Where a run is stuck: the reason and the statement; reason 0 where it went on.
-#[derive(Drop)]
+#[derive(Clone, Copy)]
 pub struct Stuck {
     pub reason: u8,
     pub at: u16,

@@ -1,4 +1,6 @@
 // The array run, the stream run, laying out and putting back: from a file that was read and the lent memory, and from the bytes of any file.
+#![tactic(auto)]
+
 ghost use Rattle.std.specs.Prelude.{◌≡◌, ◌&&◌, ◌*◌, pos, length};
 ghost use Rattle.numbers.specs.Result.{ok};
 ghost use Rattle.numbers.specs.Words.{bytes};
@@ -13,7 +15,7 @@ use parts::{Counts, Measure, Part};
 use read_counts::Read;
 use run_loops::Counters;
 
-#[derive(Drop)]
+#[derive(Clone, Copy)]
 pub enum Ran {
     // number, section, record
     Refused(u8, u8, u16),
@@ -23,7 +25,7 @@ pub enum Ran {
     Stuck(u8, u16, u16, u16),
 }
 
-#[derive(Drop)]
+#[derive(Clone, Copy)]
 pub enum Done {
     // number, section, record
     Refused(u8, u8, u16),
@@ -31,7 +33,7 @@ pub enum Done {
 }
 
 // A lent area: how long it is, and the side whose cells or items it must be as long as.
-#[derive(Drop)]
+#[derive(Clone, Copy)]
 struct Area {
     bytes: usize,
     measure: Measure,

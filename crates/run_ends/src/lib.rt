@@ -1,4 +1,6 @@
 // Where a block of a program ends, and the record after a statement: found by looking through the records.
+#![tactic(auto)]
+
 ghost use Rattle.std.specs.Prelude.{◌≡◌, ◌≤◌, ◌<◌, get_or};
 ghost use Rattle.kernel.specs.File as File;
 ghost use Rattle.parts.specs.Parts.{records_in, Lies};

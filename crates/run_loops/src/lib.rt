@@ -1,4 +1,6 @@
 // The counters of the loops around a statement, and how they change at a for and at an if.
+#![tactic(auto)]
+
 ghost use Rattle.std.specs.Prelude.{◌≡◌, ◌-◌, ◌^◌, ◌≤◌, ◌<◌, set};
 ghost use Rattle.numbers.specs.Bounds.{Small};
 ghost use Rattle.forms.specs.Form as F;
@@ -10,7 +12,7 @@ ghost use Rattle.run_loops.specs.View.{counters, CountersSmall};
 use forms::Loop;
 
 // How many more blocks may be opened; how many loops there are; and the counters of the four levels, 0 where no loop runs.
-#[derive(Drop)]
+#[derive(Clone, Copy)]
 pub struct Counters {
     pub left: usize,
     pub level: usize,

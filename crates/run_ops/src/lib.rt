@@ -1,4 +1,6 @@
 // Statements that hold no block: registers, cells of arrays and items of streams.
+#![tactic(auto)]
+
 ghost use Rattle.std.specs.Prelude.{◌≡◌, cond, List, ℕ, ◌<◌, ◌^◌, nat_abs};
 ghost use Rattle.numbers.specs.Words.{words, inside};
 ghost use Rattle.forms.specs.Form as F;

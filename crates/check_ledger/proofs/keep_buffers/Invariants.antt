@@ -1,0 +1,15 @@
+use Prim.Native.Nat.{◌-◌}
+use mathlib.Core.Path.{ap₂, ◌∙◌}
+use native.Mathlib.Omega.{arith}
+use borrow.Author.Rules.{rules}
+use Rattle.forms.specs.Code.{loops}
+use Rattle.kernel.specs.Ledger as L
+use Rattle.check_ledger.specs.View.{held}
+use Rattle.check_ledger.proofs.Tests.{Keeping, keep_starts, keep_more, keep_all}
+use Rattle.check_ledger.proofs.keep_buffers.Given as goal
+
+abbrev pub invariant-loop-i : goal.invariant-loop-i
+invariant-loop-i l = Keeping (loops l.around) l.first l.initial.l l.b l.i l.l
+
+abbrev pub decreases-loop-i : goal.decreases-loop-i
+decreases-loop-i l = l.b - l.i

@@ -1,0 +1,15 @@
+use Prim.Native.Nat.{ℕ, ◌+◌, ◌≤◌}
+use mathlib.Core.Path.{◌≡◌, refl, sym, subst}
+use mathlib.Core.List.{List, ◌++◌}
+use native.Mathlib.Omega.{arith}
+use lib.ListN.{length, drop}
+use lib.Seq.{drop-length}
+use Rattle.line.specs.View.{Shows}
+use Rattle.line.proofs.Texts.{one_byte}
+use Rattle.line.proofs.Text.word.Given as goal
+
+abbrev pub invariant-loop-i : goal.invariant-loop-i
+invariant-loop-i l = (l.i ≤ length l.w) × (l.t.from + length l.w ≡ l.initial.t.from + l.i) × ((u : List ℕ) → Shows l.initial.t u → Shows l.t (drop l.i l.w ++ u))
+
+abbrev pub decreases-loop-i : goal.decreases-loop-i
+decreases-loop-i l = l.i

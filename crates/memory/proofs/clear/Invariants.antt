@@ -1,0 +1,15 @@
+use Prim.Native.Nat.{◌-◌, ◌≤◌}
+use mathlib.Core.Path.{◌≡◌, refl, ap, ◌∙◌}
+use mathlib.Core.List.{◌++◌, append-nil}
+use native.Mathlib.Omega.{arith}
+use borrow.Author.Fill.{fill_none, fill_more}
+use borrow.Author.Rules.{rules}
+use lib.ListN.{length, set, drop, replicate, length-set}
+use lib.Seq.{drop-length}
+use Rattle.memory.proofs.clear.Given as goal
+
+abbrev pub invariant-loop-i : goal.invariant-loop-i
+invariant-loop-i l = (l.i ≤ length l.initial.area) × (length l.area ≡ length l.initial.area) × (l.area ≡ replicate l.i 0 ++ drop l.i l.initial.area)
+
+abbrev pub decreases-loop-i : goal.decreases-loop-i
+decreases-loop-i l = length l.initial.area - l.i

@@ -1,0 +1,7 @@
+-- `numbers::word` meets its contract.
+use Rattle.std.proofs.Common.{sym, rules}
+use Rattle.numbers.proofs.Areas.{word_past}
+use Rattle.numbers.proofs.word.Goals as goal
+
+pub returns : goal.returns
+returns c = sym (word_past c.args.area.now c.args.i c.if-i-area.false)

@@ -1,0 +1,17 @@
+-- `parts::size_of` meets its contract: a measure is one of two.
+use mathlib.Core.Path.{sym, ap, ◌∙◌}
+use borrow.Author.Rules.{rules}
+use Rattle.parts.specs.Arrays.{array_at, measure}
+use Rattle.parts.proofs.size_of.Goals as goal
+
+pub returns-in-Cells : goal.returns-in-Cells
+unfolding measure
+returns-in-Cells c =
+    let a = c.args in
+    c.length_of.ensures ∙ sym (ap (λ m. measure m (array_at a.file.now a.j)) c.enum_told-1.given.1)
+
+pub returns-in-Items : goal.returns-in-Items
+unfolding measure
+returns-in-Items c =
+    let a = c.args in
+    c.count_of.ensures ∙ sym (ap (λ m. measure m (array_at a.file.now a.j)) c.enum_told-in-Items-1.given.1)

@@ -1,0 +1,20 @@
+use Prim.Native.Nat.{◌-◌, ◌≤◌}
+use mathlib.Core.Path.{◌≡◌, refl, sym, ap, ◌∙◌}
+use native.Mathlib.Omega.{arith}
+use lib.ListN.{length, drop}
+use Rattle.numbers.specs.Words.{words}
+use Rattle.kernel.specs.File.{Kernel}
+use Rattle.kernel.specs.Reading.{records, rule_fits, rules_fit}
+use Rattle.read_file.specs.View.{checked}
+use Rattle.read_file.proofs.Rows.{rule_unfit, rule_fine, rules_over}
+use borrow.Author.Rules.{rules}
+use borrow.Author.Tests.{not-true, not-false}
+use Rattle.read_file.proofs.rules_fit.Given as goal
+
+abbrev pub invariant-loop-i : goal.invariant-loop-i
+invariant-loop-i l =
+    (l.i ≤ l.count)
+    × ((K : Kernel) → length K.arrays ≡ l.arrays → K.buffers ≡ l.buffers → rules_fit K l.i (drop l.i (records l.count (drop l.at (words l.file)))) ≡ rules_fit K 0 (records l.count (drop l.at (words l.file))))
+
+abbrev pub decreases-loop-i : goal.decreases-loop-i
+decreases-loop-i l = l.count - l.i
