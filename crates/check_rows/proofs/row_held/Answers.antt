@@ -15,5 +15,5 @@ returns-then-r-eq-MINUS_ONE c =
 pub returns : goal.returns
 returns c =
     let e = c.form_of-index.ensures in
-    let number = c.number_of_lem in
-    (ap (λ n. numbered n c.form_of-index.result) (as_returned {z = number.result} number.type-inv ∙ number.ensures) ∙ states_something (rec c.args.r) _ e c.if-r-eq-MINUS_ONE.false, e)
+    let number = c.number_of in
+    (ap (λ n. numbered n c.form_of-index.result) (as_returned {z = number.result} number.type_inv ∙ number.ensures) ∙ states_something (rec c.args.r) _ e c.if-r-eq-MINUS_ONE.false, e)

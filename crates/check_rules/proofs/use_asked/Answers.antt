@@ -18,8 +18,8 @@ module _ (c : After-row_true) where
 
   held_there : L.holds_just (loops c.args.around) (L.held c.args.a.q (File.form (rec c.args.a))) (held c.args.h) ≡ c.row_true.result
   held_there =
-      let number = c.number_of_lem in
-      let is = as_returned {z = number.result} number.type-inv ∙ number.ensures in
+      let number = c.number_of in
+      let is = as_returned {z = number.result} number.type_inv ∙ number.ensures in
       sym (c.row_true.ensures
       ∙ ap (λ n. L.row_true (loops c.args.around) (numbered n c.form_of-index.result) (held c.args.h)) is
       ∙ states_held (loops c.args.around) c.args.a.q c.form_of-index.result (held c.args.h)

@@ -7,7 +7,7 @@ use Rattle.memory.proofs.only.Goals as goal
 pub returns-then-side_of-side : goal.returns-then-side_of-side
 returns-then-side_of-side c =
     let a = c.args in
-    only_here a.side (measure a.m) (array_at a.file.now a.j) c.side_of.ensures c.if-side_of-side.true c.type_size.ensures
+    only_here a.side (measure a.m) (array_at a.file.now a.j) c.side_of.ensures c.if-side_of-side.true c.size_of.ensures
 
 pub returns : goal.returns
 returns c =

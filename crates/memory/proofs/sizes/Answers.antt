@@ -33,7 +33,7 @@ loop-q-preserved c =
     let a = c.args in
     let v = c.loop-q in (
       search rules,
-      filled_more (size a.m (arrays_of a.file.now a.n)) v.q c.type_size.result v.t v.invariant.1 (below-8 c) (c.type_size.ensures ∙ ap (measure a.m) (sym (array_is a.file.now a.n v.q c.loop-q-test.true))),
+      filled_more (size a.m (arrays_of a.file.now a.n)) v.q c.size_of.result v.t v.invariant.1 (below-8 c) (c.size_of.ensures ∙ ap (measure a.m) (sym (array_is a.file.now a.n v.q c.loop-q-test.true))),
     )
 
 pub returns : goal.returns

@@ -11,7 +11,7 @@ returns c =
     let first = c.signed in
     let step = c.signed-2 in
     λ i. record {
-      first = (as_returned {z = first.result} first.type-inv ∙ first.ensures) i;
-      step = (as_returned {z = step.result} step.type-inv ∙ step.ensures) i;
+      first = (as_returned {z = first.result} first.type_inv ∙ first.ensures) i;
+      step = (as_returned {z = step.result} step.type_inv ∙ step.ensures) i;
       passes = c.passes.ensures i;
     }

@@ -8,10 +8,10 @@ pub returns-in-Cells : goal.returns-in-Cells
 unfolding measure
 returns-in-Cells c =
     let a = c.args in
-    c.length_of.ensures ∙ sym (ap (λ m. measure m (array_at a.file.now a.j)) c.enum_told-1.given.1)
+    c.length_of.ensures ∙ sym (ap (λ m. measure m (array_at a.file.now a.j)) c.in-Cells.is)
 
 pub returns-in-Items : goal.returns-in-Items
 unfolding measure
 returns-in-Items c =
     let a = c.args in
-    c.count_of.ensures ∙ sym (ap (λ m. measure m (array_at a.file.now a.j)) c.enum_told-in-Items-1.given.1)
+    c.count_of.ensures ∙ sym (ap (λ m. measure m (array_at a.file.now a.j)) c.in-Items.is)

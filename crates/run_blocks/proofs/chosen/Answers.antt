@@ -44,13 +44,13 @@ end_of-requires c =
 
 pub overflow_add-result : goal.overflow_add-result
 overflow_add-result c =
-    let end = first_ends (rs c.requires) c.args.i (st c.requires).begins (here c.requires) (sym c.requires.is_code) c.end_of_lem.result c.end_of_lem.ensures in
+    let end = first_ends (rs c.requires) c.args.i (st c.requires).begins (here c.requires) (sym c.requires.is_code) c.end_of.result c.end_of.ensures in
     omega (arith, end, count_is c.args.file.now c.args.part, c.requires.lies.few)
 
 pub returns-then-v-eq0 : goal.returns-then-v-eq0
 returns-then-v-eq0 c =
-    let one_more : suc c.end_of_lem.result ≡ c.end_of_lem.result + 1 = omega arith in
-    takes (goal.at.returns-then-v-eq0 c).After-word-p (takes_second (rs c.requires) c.args.i _ c.if-v-ge-NO_WORD.false c.if-v-eq0.true ∙ ap suc (sym c.end_of_lem.ensures) ∙ one_more)
+    let one_more : suc c.end_of.result ≡ c.end_of.result + 1 = omega arith in
+    takes (goal.at.returns-then-v-eq0 c).After-word-p (takes_second (rs c.requires) c.args.i _ c.if-v-ge-NO_WORD.false c.if-v-eq0.true ∙ ap suc (sym c.end_of.ensures) ∙ one_more)
 
 pub returns : goal.returns
 returns c = takes (goal.at.returns c).After-word-p (takes_first (rs c.requires) c.args.i _ c.if-v-ge-NO_WORD.false c.if-v-eq0.false)

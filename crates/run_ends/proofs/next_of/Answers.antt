@@ -59,10 +59,10 @@ end_of-requires c =
 
 pub overflow_add-result : goal.overflow_add-result
 overflow_add-result c =
-    omega (arith, low (goal.at.overflow_add-result c).Start (after_loop (goal.at.overflow_add-result c).Start c.if-code-eq-FORS.true c.end_of_lem.result c.end_of_lem.ensures).1)
+    omega (arith, low (goal.at.overflow_add-result c).Start (after_loop (goal.at.overflow_add-result c).Start c.if-code-eq-FORS.true c.end_of.result c.end_of.ensures).1)
 
 pub returns-then-code-eq-FORS : goal.returns-then-code-eq-FORS
-returns-then-code-eq-FORS c = (after_loop (goal.at.returns-then-code-eq-FORS c).Start c.if-code-eq-FORS.true c.end_of_lem.result c.end_of_lem.ensures).0
+returns-then-code-eq-FORS c = (after_loop (goal.at.returns-then-code-eq-FORS c).Start c.if-code-eq-FORS.true c.end_of.result c.end_of.ensures).0
 
 pub end_of-other-requires : goal.end_of-other-requires
 end_of-other-requires c =

@@ -18,5 +18,5 @@ pub returns : goal.returns
 returns c =
     let r = c.counting-inner in
     let k = c.counter in
-    let z = as_returned {z = k.result} k.type-inv ∙ k.ensures.0 in
+    let z = as_returned {z = k.result} k.type_inv ∙ k.ensures.0 in
     (deeper_counters c.args.a r.result _ _ r.ensures.0 z, ap (λ n. n - 1) r.ensures.1, deeper_small c.args.a r.result _ _ r.ensures.0 z c.requires.0 k.ensures.1)
