@@ -24,7 +24,6 @@ loop-j-init c = (omega arith, omega arith, omega arith, refl, refl)
 
 -- in a turn: the array whose items are carried
 module _ (c : In-loop-j) where
-
   abbrev j : ℕ
   j = c.loop-j.j
 

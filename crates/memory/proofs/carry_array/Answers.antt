@@ -28,7 +28,6 @@ loop-k-init c =
 
 -- the order's first index and step, as the code has read them
 module _ (c : In-loop-k) where
-
   abbrev a : Rec
   a = array_at c.args.file.now c.args.j
 

@@ -25,7 +25,6 @@ code_in-code-requires c =
 
 -- in a turn, where the code is read
 module _ (c : After-code_in-code) where
-
   abbrev rs : List Rec
   rs = records_in c.args.file.now c.args.part
 

@@ -70,7 +70,6 @@ end_of-other-requires c =
 
 -- where the first block of an if has ended
 module _ (c : After-end_of-other) where
-
   second : InBlock (rs ⟪Start⟫) (c.end_of-other.result + 1) × (c.end_of-other.result < length (rs ⟪Start⟫))
   second = of-else s c.if-code-eq-IFS.true c.end_of-other.result c.end_of-other.ensures
 
