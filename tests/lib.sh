@@ -63,3 +63,42 @@ example() {
 vector() {
     "$tool" words "$2" "$(sed 's/#.*//' "$top/tests/vectors/$1.txt")"
 }
+
+# crates_copy CRATE..: the sources of these crates in $work/repository, each with what was proved of it here
+crates_copy() {
+    rm -rf "$work/repository"
+    mkdir -p "$work/repository/crates"
+    for crate; do
+        cp -r "$top/crates/$crate" "$work/repository/crates/"
+        grep "^$crate[ :]" "$top/crates.txt" >>"$work/repository/crates.txt"
+    done
+}
+
+# edited EDIT FOLDER [FUNCTION..]: makes the edit in FOLDER: each text 'old:', which stands once in the file of the 'file:' line above, becomes the text 'new:'. With
+# functions, those places alone that stand under a line 'refuses: FUNCTION' of one of them. Fails where an old text does not stand there once.
+edited() {
+    edit=$1 folder=$2
+    shift 2
+    awk -v root="$folder/" -v only=" $* " '
+        function count(text, part,   n, at) {
+            n = 0
+            while ((at = index(text, part)) > 0) { n++; text = substr(text, at + length(part)) }
+            return n
+        }
+        /^file: / { file = root substr($0, 7); if (!(file in texts)) { while ((getline l < file) > 0) texts[file] = texts[file] l "\n"; close(file) } }
+        /^refuses: / { taken = only == "  " || index(only, " " substr($0, 10) " ") }
+        /^old: / { old = substr($0, 6) }
+        /^new:/ {
+            if (marked && !taken) next
+            new = substr($0, 6)
+            hits = count(texts[file], old)
+            if (hits != 1) { print hits " times and not once in " file ": " old; bad = 1; next }
+            at = index(texts[file], old)
+            texts[file] = substr(texts[file], 1, at - 1) new substr(texts[file], at + length(old))
+        }
+        BEGIN { marked = only != "  " }
+        END {
+            if (bad) exit 1
+            for (file in texts) { printf "%s", texts[file] >file; close(file) }
+        }' "$edit"
+}

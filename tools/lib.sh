@@ -25,11 +25,11 @@ temporary() {
     work=$(mktemp -d) || stop "no temporary directory"
 }
 
-# stale PROGRAM SOURCE..: the program is not there, or something of its sources is newer
+# stale MADE SOURCE..: what is made is not there, or something of its sources is newer
 stale() {
-    program=$1
+    made=$1
     shift
-    [ ! -x "$program" ] || [ -n "$(find "$@" -type f -newer "$program" | head -n 1)" ]
+    [ ! -f "$made" ] || [ -n "$(find "$@" -name out -prune -o -type f -newer "$made" -print | head -n 1)" ]
 }
 
 # on_rust FOLDER VERB WORDS..: cargo on a folder of this repository; what it builds is kept in one folder for all
@@ -50,16 +50,30 @@ build_rust() {
     touch -r "$work/begun" "$built"
 }
 
-# build_proved CRATE: the program target/bin/CRATE, proved first. What has not changed since the last time is not proved again, but what rt says is shown: it
-# may take long. tools/proved runs it.
-build_proved() {
-    built=$top/target/bin/$1
-    stale "$built" "$top/crates" "$top/crates.txt" || return 0
+# proved_anew TARGET CRATE VERB: has rt prove and make a crate, unless the file TARGET that it makes is newer than all sources. What has not changed since the
+# last time is not proved again, but what rt says is shown: it may take long.
+proved_anew() {
+    stale "$1" "$top/crates" "$top/crates.txt" || return 1
     need rt "the Rattle toolchain"
-    echo "$me: proving and building $1; from nothing this takes some minutes, later only what has changed" >&2
+    echo "$me: proving and building $2; from nothing this takes some minutes, later only what has changed" >&2
     : >"$work/begun"
-    (cd "$top" && rt check "$1") >&2 || stop "$1 is not proved"
-    [ -x "$built" ] || stop "rt check $1 left no program target/bin/$1"
-    # rt leaves a program alone that would be the same again
-    touch -r "$work/begun" "$built"
+    (cd "$top/crates/$2" && rt "$3" </dev/null) >&2 || stop "$2 is not proved"
+}
+
+# put_there MADE TARGET: keeps what rt has made under target/
+put_there() {
+    [ -f "$1" ] || stop "rt left no $1"
+    mkdir -p "$(dirname "$2")" && cp "$1" "$2" && touch -r "$work/begun" "$2" || exit 2
+}
+
+# build_proved CRATE: the program target/bin/CRATE, proved first. tools/proved runs it. (rt runs what it builds: here on no input.)
+build_proved() {
+    proved_anew "$top/target/bin/$1" "$1" run || return 0
+    put_there "$top/crates/$1/out/$1" "$top/target/bin/$1"
+}
+
+# build_archive: the archive target/staticlib/libplanner.a that C links with, proved first
+build_archive() {
+    proved_anew "$top/target/staticlib/libplanner.a" planner_c lib || return 0
+    put_there "$top/crates/planner_c/out/libplanner_c.a" "$top/target/staticlib/libplanner.a"
 }
