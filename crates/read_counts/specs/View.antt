@@ -11,7 +11,6 @@ use Rattle.read_counts.specs.declared.Found.{Found}
 use Rattle.parts.specs.Parts.{kernel, Fills}
 use Rattle.read_counts.specs.declared.Read.{Read}
 use Rattle.read_counts.specs.declared.Read.TheVariants.{Kernel, Refused}
-use Rattle.parts.specs.declared.Rec.{Rec}
 
 -- the number at a place, or the end where fewer than four bytes are left
 unfoldable pub step : List ℕ → ℕ → Step

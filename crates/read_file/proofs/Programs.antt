@@ -8,7 +8,7 @@ use lib.ListN.{get_or, take, drop, drop_of_length-le}
 use borrow.Author.Tests.{ne_eqb}
 use Rattle.numbers.specs.Result.{ok, stop, need, because, ◌>>=◌}
 use Rattle.kernel.specs.File.{Rec, record_of, none, sayings, statement, loop_of}
-use Rattle.kernel.specs.Reading.{Fault, fault, Scope, Open, records, statement_fits, after, closed, statements_fit}
+use Rattle.kernel.specs.Reading.{fault, Scope, Open, records, statement_fits, after, closed, statements_fit}
 use Rattle.kernel.specs.Guarantees.{StatementFits}
 use Rattle.kernel.proofs.Readable.{length_records, statement_says}
 use Rattle.parts.proofs.Records.{record_next}

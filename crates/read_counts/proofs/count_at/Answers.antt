@@ -12,22 +12,22 @@ pub returns-in_default : goal.returns-in_default
 unfolding counted
 returns-in_default c =
     let a = c.args in
-    (sym (count_end a.file.now a.place a.section a.low a.high (sym c.enum_told-1.given.1 ∙ c.number_at.ensures)), search rules, refl)
+    (sym (count_end a.file.now a.place a.section a.low a.high c.in_default.ensures), search rules, refl)
 
 pub returns-then-n-low : goal.returns-then-n-low
 unfolding counted between need ◌>>=◌
 returns-then-n-low c =
     let a = c.args in
-    (sym (count_number a.file.now a.place a.section a.low a.high _ (sym c.n-1.given.1 ∙ c.number_at.ensures) ∙ simp (lt-leb _ _ c.if-n-low.true) refl), search rules, refl)
+    (sym (count_number a.file.now a.place a.section a.low a.high _ c.in-Number.ensures ∙ simp (lt-leb _ _ c.if-n-low.true) refl), search rules, refl)
 
 pub returns-then-high-n : goal.returns-then-high-n
 unfolding counted between need ◌>>=◌
 returns-then-high-n c =
     let a = c.args in
-    (sym (count_number a.file.now a.place a.section a.low a.high _ (sym c.n-1.given.1 ∙ c.number_at.ensures) ∙ simp (le-leb _ _ c.if-n-low.false, lt-leb _ _ c.if-high-n.true) refl), search rules, refl)
+    (sym (count_number a.file.now a.place a.section a.low a.high _ c.in-Number.ensures ∙ simp (le-leb _ _ c.if-n-low.false, lt-leb _ _ c.if-high-n.true) refl), search rules, refl)
 
 pub returns : goal.returns
 unfolding counted between need ◌>>=◌
 returns c =
     let a = c.args in
-    (sym (count_number a.file.now a.place a.section a.low a.high _ (sym c.n-1.given.1 ∙ c.number_at.ensures) ∙ simp (le-leb _ _ c.if-n-low.false, le-leb _ _ c.if-high-n.false) refl), search rules, refl)
+    (sym (count_number a.file.now a.place a.section a.low a.high _ c.in-Number.ensures ∙ simp (le-leb _ _ c.if-n-low.false, le-leb _ _ c.if-high-n.false) refl), search rules, refl)

@@ -1,6 +1,5 @@
 -- `read_counts::step_at` meets its contract.
 use mathlib.Core.Path.{ap}
-use borrow.Author.Rules.{rules}
 use borrow.Author.Tests.{lt-ltb, le-ltb}
 use Rattle.read_counts.specs.declared.Step.TheVariants.{Number}
 use Rattle.read_counts.specs.View.{step}

@@ -3,7 +3,6 @@ use mathlib.Core.Path.{sym}
 use native.Mathlib.Nat.{add-zero}
 use borrow.Author.Tests.{eq-eqb, ne_eqb}
 use Rattle.kernel.specs.File as File
-use borrow.Author.Rules.{rules}
 use Rattle.read_file.proofs.added.Goals as goal
 
 pub returns-then-a-side : goal.returns-then-a-side

@@ -1,14 +1,8 @@
-use Prim.Native.Nat.{◌+◌, ◌-◌, ◌≤◌}
-use mathlib.Core.Path.{◌≡◌, refl, sym, ap, ◌∙◌}
-use native.Mathlib.Omega.{arith}
+use Prim.Native.Nat.{◌-◌, ◌≤◌}
+use mathlib.Core.Path.{◌≡◌}
 use lib.ListN.{drop}
 use Rattle.numbers.specs.Words.{words}
-use Rattle.kernel.specs.File.{only, length_of}
-use Rattle.kernel.specs.Reading.{records, array_fits, arrays_fit}
-use Rattle.read_file.specs.View.{checked}
-use Rattle.read_file.proofs.Rows.{array_unfit, inputs_long, outputs_long, array_fine, arrays_over}
-use borrow.Author.Rules.{rules}
-use borrow.Author.Tests.{not-true, not-false}
+use Rattle.kernel.specs.Reading.{records, arrays_fit}
 use Rattle.read_file.proofs.arrays_fit.Given as goal
 
 abbrev pub invariant-loop-i : goal.invariant-loop-i

@@ -2,7 +2,6 @@
 use mathlib.Core.Path.{sym, ap, subst, ◌∙◌}
 use Rattle.read_counts.specs.View.{answer, Standing}
 use Rattle.read_file.proofs.Parts.{read_odd, read_stop}
-use borrow.Author.Rules.{rules}
 use Rattle.read_file.proofs.read.Goals as goal
 
 pub returns-then-file-ne0 : goal.returns-then-file-ne0
@@ -13,11 +12,11 @@ pub records_fit-requires : goal.records_fit-requires
 unfolding answer Standing
 records_fit-requires c =
     let a = c.args in
-    let e = c.c-1.given.1 in
+    let e = c.in-Kernel.is in
     (c.if-file-ne0.false, sym c.sections.ensures.0 ∙ ap (answer a.file.now) e, subst (Standing a.file.now) e c.sections.ensures.1)
 
 pub returns-in-Refused : goal.returns-in-Refused
 unfolding answer
 returns-in-Refused c =
     let a = c.args in
-    sym (read_stop a.file.now _ c.if-file-ne0.false (sym c.sections.ensures.0 ∙ ap (answer a.file.now) c.number-1.given.1))
+    sym (read_stop a.file.now _ c.if-file-ne0.false (sym c.sections.ensures.0 ∙ ap (answer a.file.now) c.in-Refused.is))

@@ -1,15 +1,11 @@
 -- `read_file::rules_fit` meets its contract. The invariant: the test from here on is the test of the whole.
-use Prim.Native.Nat.{◌-◌, ◌≤◌}
-use mathlib.Core.Path.{◌≡◌, refl, sym, ap, ◌∙◌}
+use mathlib.Core.Path.{refl, sym, ap, ◌∙◌}
 use native.Mathlib.Omega.{arith}
-use lib.ListN.{length, drop}
 use Rattle.numbers.specs.Words.{words}
-use Rattle.kernel.specs.File.{Kernel}
-use Rattle.kernel.specs.Reading.{records, rule_fits, rules_fit}
+use Rattle.kernel.specs.Reading.{rule_fits}
 use Rattle.read_file.specs.View.{checked}
 use Rattle.read_file.proofs.Rows.{rule_unfit, rule_fine, rules_over}
 use borrow.Author.Rules.{rules}
-use borrow.Author.Tests.{not-true, not-false}
 use Rattle.read_file.proofs.rules_fit.Goals as goal
 
 pub loop-i-init : goal.loop-i-init
@@ -19,12 +15,12 @@ pub returns-then-not-rule_fits : goal.returns-then-not-rule_fits
 unfolding checked
 returns-then-not-rule_fits c = λ K x y.
     let l = c.loop-i in
-    sym (rule_unfit K (words c.args.file.now) c.args.at c.args.count l.i c.loop-i-test.true (ap (rule_fits K) (sym c.record_at-d.ensures) ∙ sym (c.rule_fits.ensures K x y) ∙ not-true _ c.if-not-rule_fits.true)) ∙ l.invariant.1 K x y
+    sym (rule_unfit K (words c.args.file.now) c.args.at c.args.count l.i c.loop-i-test.true (ap (rule_fits K) (sym c.record_at-d.ensures) ∙ sym (c.rule_fits.ensures K x y) ∙ c.if-not-rule_fits.true)) ∙ l.invariant.1 K x y
 
 pub loop-i-preserved : goal.loop-i-preserved
 loop-i-preserved c =
     let l = c.loop-i in
-    (search rules, λ K x y. rule_fine K (words c.args.file.now) c.args.at c.args.count l.i c.loop-i-test.true (ap (rule_fits K) (sym c.record_at-d.ensures) ∙ sym (c.rule_fits.ensures K x y) ∙ not-false _ c.if-not-rule_fits.false) ∙ l.invariant.1 K x y)
+    (search rules, λ K x y. rule_fine K (words c.args.file.now) c.args.at c.args.count l.i c.loop-i-test.true (ap (rule_fits K) (sym c.record_at-d.ensures) ∙ sym (c.rule_fits.ensures K x y) ∙ c.if-not-rule_fits.false) ∙ l.invariant.1 K x y)
 
 pub returns : goal.returns
 unfolding checked

@@ -1,14 +1,9 @@
 use Prim.Native.Nat.{◌-◌, ◌≤◌}
-use mathlib.Core.Path.{◌≡◌, refl, sym, ap, ◌∙◌}
-use native.Mathlib.Omega.{arith}
+use mathlib.Core.Path.{◌≡◌}
 use lib.ListN.{length, drop}
 use Rattle.numbers.specs.Words.{words}
 use Rattle.kernel.specs.File.{Kernel}
-use Rattle.kernel.specs.Reading.{records, rule_fits, rules_fit}
-use Rattle.read_file.specs.View.{checked}
-use Rattle.read_file.proofs.Rows.{rule_unfit, rule_fine, rules_over}
-use borrow.Author.Rules.{rules}
-use borrow.Author.Tests.{not-true, not-false}
+use Rattle.kernel.specs.Reading.{records, rules_fit}
 use Rattle.read_file.proofs.rules_fit.Given as goal
 
 abbrev pub invariant-loop-i : goal.invariant-loop-i

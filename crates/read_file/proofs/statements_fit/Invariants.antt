@@ -1,21 +1,11 @@
-use Prim.Native.Nat.{◌+◌, ◌-◌, ◌*◌, ◌≤◌}
-use mathlib.Core.Path.{◌≡◌, sym, ap, subst, ◌∙◌}
+use Prim.Native.Nat.{◌-◌, ◌≤◌}
+use mathlib.Core.Path.{◌≡◌}
 use mathlib.Core.List.{[]}
-use native.Mathlib.Omega.{arith}
-use native.Mathlib.Nat as NatL
 use lib.ListN.{drop}
 use Rattle.numbers.specs.Words.{words}
-use Rattle.kernel.specs.File as File
-use Rattle.kernel.specs.File.{Rec, loop_of}
-use Rattle.kernel.specs.Reading.{records, after, statement_fits, statements_fit}
-use Rattle.parts.specs.Records.{record_at}
+use Rattle.kernel.specs.Reading.{records, statements_fit}
 use Rattle.read_records.specs.View.{scope}
 use Rattle.read_blocks.specs.View.{opens, Sound}
-use Rattle.read_blocks.proofs.Statements.{nested_fine}
-use Rattle.read_file.specs.View.{checked}
-use Rattle.read_file.proofs.Programs.{loop_there, unfit, blocked, goes_on, over, closed_none, closed_some, nested_stop, checked_stop}
-use borrow.Author.Rules.{rules}
-use borrow.Author.Tests.{not-true, not-false}
 use Rattle.read_file.proofs.statements_fit.Given as goal
 
 abbrev pub invariant-loop-i : goal.invariant-loop-i

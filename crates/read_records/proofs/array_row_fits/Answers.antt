@@ -1,5 +1,4 @@
 -- `read_records::array_row_fits` meets its contract.
-use borrow.Author.Rules.{rules}
 use borrow.Author.Tests.{lt-ltb, le-ltb, eq-eqb, ne_eqb}
 use Rattle.read_records.proofs.array_row_fits.Goals as goal
 

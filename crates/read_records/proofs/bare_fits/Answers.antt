@@ -2,8 +2,6 @@
 use mathlib.Core.Path.{◌≡◌, sym, ◌∙◌}
 use mathlib.Core.Bool.{true}
 use mathlib.Core.List.{[], ◌∷◌}
-use borrow.Author.Rules.{rules}
-use borrow.Author.Tests.{not-true, not-false}
 use Rattle.numbers.specs.Words.{between}
 use Rattle.kernel.specs.File.{numbers}
 use Rattle.kernel.specs.Reading as Reading
@@ -13,17 +11,17 @@ use Rattle.read_records.proofs.bare_fits.Goals as goal
 
 -- what each test left
 coded : (c : Else-not-between) → between 1 10 c.args.d.code ≡ true
-coded c = sym c.between.ensures ∙ not-false _ c.if-not-between.false
+coded c = sym c.between.ensures ∙ c.if-not-between.false
 
 three : (c : Else-not-zeros) → Reading.zeros (c.args.d.p ∷ c.args.d.q ∷ c.args.d.k ∷ []) ≡ true
-three c = sym (c.zeros.ensures ∙ zeros_lead _) ∙ not-false _ c.if-not-zeros.false
+three c = sym (c.zeros.ensures ∙ zeros_lead _) ∙ c.if-not-zeros.false
 
 pub returns-then-not-between : goal.returns-then-not-between
-returns-then-not-between c = rw (sym c.between.ensures ∙ not-true _ c.if-not-between.true)
+returns-then-not-between c = rw (sym c.between.ensures ∙ c.if-not-between.true)
 
 pub returns-then-not-zeros : goal.returns-then-not-zeros
 unfolding numbers
-returns-then-not-zeros c = rw (coded (goal.at.returns-then-not-zeros c).Else-not-between, zeros_three, sym (c.zeros.ensures ∙ zeros_lead _) ∙ not-true _ c.if-not-zeros.true)
+returns-then-not-zeros c = rw (coded (goal.at.returns-then-not-zeros c).Else-not-between, zeros_three, sym (c.zeros.ensures ∙ zeros_lead _) ∙ c.if-not-zeros.true)
 
 pub returns : goal.returns
 unfolding numbers

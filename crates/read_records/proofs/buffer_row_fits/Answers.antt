@@ -1,6 +1,5 @@
 -- `read_records::buffer_row_fits` meets its contract.
 use mathlib.Core.Path.{sym, ◌∙◌}
-use borrow.Author.Rules.{rules}
 use borrow.Author.Tests.{lt-ltb, le-ltb}
 use Rattle.read_records.proofs.buffer_row_fits.Goals as goal
 

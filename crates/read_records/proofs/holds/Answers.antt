@@ -1,11 +1,11 @@
 -- `read_records::holds` meets its contract: an arm for each kind.
 use mathlib.Core.Path.{refl, ap}
+use native.Mathlib.Omega.{arith}
 use lib.Dec.{eqb}
 use Rattle.kernel.specs.Reading as Reading
 use Rattle.kernel.specs.File.{on}
 use Rattle.read_records.specs.View.{kind_of}
 use Rattle.read_records.proofs.Tables.{kind_rest}
-use borrow.Author.Rules.{rules}
 use Rattle.read_records.proofs.holds.Goals as goal
 
 pub returns-in-1 : goal.returns-in-1

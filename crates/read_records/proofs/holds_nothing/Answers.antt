@@ -1,6 +1,5 @@
 -- `read_records::holds_nothing` meets its contract.
 use mathlib.Core.Path.{sym}
-use borrow.Author.Rules.{rules}
 use borrow.Author.Tests.{eq-eqb, ne_eqb}
 use Rattle.numbers.specs.Lists.{every}
 use Rattle.kernel.specs.Reading as Reading

@@ -1,6 +1,5 @@
 -- `read_records::kind` meets its contract: an entry of a table of kinds by their numbers.
 use Rattle.read_records.proofs.Tables.{entry}
-use borrow.Author.Rules.{rules}
 use Rattle.read_records.proofs.kind.Goals as goal
 
 pub returns : goal.returns

@@ -1,6 +1,5 @@
 -- `read_records::last_inside` meets its contract: in 64 bits nothing is lost.
 use mathlib.Core.Path.{ap, ◌∙◌}
-use borrow.Author.Rules.{rules}
 use Rattle.numbers.specs.Words.{inside}
 use Rattle.read_records.proofs.Arrays.{product_fits, last_fits, last_is}
 use Rattle.read_records.proofs.last_inside.Goals as goal

@@ -1,6 +1,5 @@
 -- `read_records::rule_fits` meets its contract: a row for each code.
 use mathlib.Core.Path.{◌∙◌}
-use borrow.Author.Rules.{rules}
 use Rattle.parts.specs.Records.{rec}
 use Rattle.read_records.proofs.Rules.{at_11, at_12, at_other}
 use Rattle.read_records.proofs.rule_fits.Goals as goal

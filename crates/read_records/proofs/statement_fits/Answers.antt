@@ -11,46 +11,46 @@ use Rattle.parts.specs.Records.{record_at}
 use Rattle.parts.proofs.Records.{record_there}
 use Rattle.read_records.specs.View.{scope, row}
 use Rattle.read_records.proofs.Statements.{fits_low, fits_high, fits_row, fits_other, fits_for}
-use borrow.Author.Rules.{rules}
-use borrow.Author.Tests.{not-true, not-false}
-use Rattle.read_records.proofs.statement_fits.Goals.{After-whole_word-code}
+use Rattle.read_records.proofs.statement_fits.Goals.{Start, After-whole_word-code}
 use Rattle.read_records.proofs.statement_fits.Goals as goal
 
-code_is : (c : After-whole_word-code) → c.whole_word-code.result ≡ c.code
+-- the record at the place
+abbrev there : Start → Rec
+there s = record_at s.args.file.now s.args.place
+
+code_is : (c : After-whole_word-code) → c.whole_word-code.result ≡ (record_at c.args.file.now c.args.place).code
 unfolding word
 code_is c =
     c.whole_word-code.ensures ∙ ap (λ (r : Rec). r.code) (record_there (words c.args.file.now) c.args.place (omega (arith, words_length c.args.file.now, c.requires.2)))
 
 pub returns-then-code-lt-SETS : goal.returns-then-code-lt-SETS
 returns-then-code-lt-SETS c =
-    fits_low (scope c.args.file.now c.args.c) c c.whole_word-code.result (code_is (goal.at.returns-then-code-lt-SETS c).After-whole_word-code) c.if-code-lt-SETS.true
+    let a = goal.at.returns-then-code-lt-SETS c in
+    fits_low (scope c.args.file.now c.args.c) (there a.Start) c.whole_word-code.result (code_is a.After-whole_word-code) c.if-code-lt-SETS.true
 
 pub returns-then-code-gt-ENDS : goal.returns-then-code-gt-ENDS
 returns-then-code-gt-ENDS c =
-    fits_high (scope c.args.file.now c.args.c) c c.whole_word-code.result (code_is (goal.at.returns-then-code-gt-ENDS c).After-whole_word-code) c.if-code-lt-SETS.false c.if-code-gt-ENDS.true
-
--- what the row's test answers
-row_is : (c : tie.After-row-fits)
-    → let w = c.before.before.before in
-    let a = w.before.before.args in
-    row a.file.now a.c a.place w.whole_word.result ≡ c.row-fits.result
-row_is c = sym c.row-fits.ensures
+    let a = goal.at.returns-then-code-gt-ENDS c in
+    fits_high (scope c.args.file.now c.args.c) (there a.Start) c.whole_word-code.result (code_is a.After-whole_word-code) c.if-code-lt-SETS.false c.if-code-gt-ENDS.true
 
 pub returns-then-not-row_fits : goal.returns-then-not-row_fits
 unfolding row
 returns-then-not-row_fits c =
-    fits_row (scope c.args.file.now c.args.c) c c.whole_word-code.result (code_is (goal.at.returns-then-not-row_fits c).After-whole_word-code) c.if-code-lt-SETS.false c.if-code-gt-ENDS.false
-    (row_is c ∙ not-true _ c.if-not-row_fits.true)
+    let a = goal.at.returns-then-not-row_fits c in
+    fits_row (scope c.args.file.now c.args.c) (there a.Start) c.whole_word-code.result (code_is a.After-whole_word-code) c.if-code-lt-SETS.false c.if-code-gt-ENDS.false
+    (sym c.row_fits.ensures ∙ c.if-not-row_fits.true)
 
 pub returns-then-code-ne-FORS : goal.returns-then-code-ne-FORS
 unfolding row
 returns-then-code-ne-FORS c =
-    fits_other (scope c.args.file.now c.args.c) c c.whole_word-code.result (code_is (goal.at.returns-then-code-ne-FORS c).After-whole_word-code) c.if-code-lt-SETS.false c.if-code-gt-ENDS.false
-    (row_is c ∙ not-false _ c.if-not-row_fits.false) c.if-code-ne-FORS.true
+    let a = goal.at.returns-then-code-ne-FORS c in
+    fits_other (scope c.args.file.now c.args.c) (there a.Start) c.whole_word-code.result (code_is a.After-whole_word-code) c.if-code-lt-SETS.false c.if-code-gt-ENDS.false
+    (sym c.row_fits.ensures ∙ c.if-not-row_fits.false) c.if-code-ne-FORS.true
 
 pub returns : goal.returns
 unfolding row
 returns c =
-    ap (λ (c : Loop). leb 1 c.passes) (c.loop_of-l.ensures ∙ ap loop_of c.record_at.ensures)
-    ∙ fits_for (scope c.args.file.now c.args.c) c c.whole_word-code.result (code_is (goal.at.returns c).After-whole_word-code) c.if-code-lt-SETS.false c.if-code-gt-ENDS.false
-    (row_is c ∙ not-false _ c.if-not-row_fits.false) c.if-code-ne-FORS.false
+    let a = goal.at.returns c in
+    ap (λ (l : Loop). leb 1 l.passes) (c.loop_of-l.ensures ∙ ap loop_of c.record_at.ensures)
+    ∙ fits_for (scope c.args.file.now c.args.c) (there a.Start) c.whole_word-code.result (code_is a.After-whole_word-code) c.if-code-lt-SETS.false c.if-code-gt-ENDS.false
+    (sym c.row_fits.ensures ∙ c.if-not-row_fits.false) c.if-code-ne-FORS.false
