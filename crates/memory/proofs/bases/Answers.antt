@@ -1,10 +1,10 @@
 -- `memory::bases` meets its contract. The invariant: the table is filled so far; past the last array there is none, on whose side is no array.
-use Prim.Native.Nat.{◌-◌, ◌<◌, ◌≤◌}
+use Prim.Native.Nat.{◌<◌}
 use mathlib.Core.Path.{◌∙◌}
 use native.Mathlib.Omega.{arith}
 use borrow.Author.Rules.{rules}
 use Rattle.parts.specs.Arrays.{arrays_of}
-use Rattle.memory.proofs.Tables.{Filled, filled_none, filled_more, filled_all}
+use Rattle.memory.proofs.Tables.{filled_none, filled_more, filled_all}
 use Rattle.parts.proofs.Arrays.{array_there, fewer}
 use Rattle.memory.specs.Sizes.{base}
 use Rattle.memory.proofs.Rows.{base_is, base_past}

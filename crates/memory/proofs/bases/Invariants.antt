@@ -1,12 +1,7 @@
-use Prim.Native.Nat.{◌-◌, ◌<◌, ◌≤◌}
-use mathlib.Core.Path.{◌∙◌}
-use native.Mathlib.Omega.{arith}
-use borrow.Author.Rules.{rules}
+use Prim.Native.Nat.{◌-◌, ◌≤◌}
 use Rattle.parts.specs.Arrays.{arrays_of}
-use Rattle.memory.proofs.Tables.{Filled, filled_none, filled_more, filled_all}
-use Rattle.parts.proofs.Arrays.{array_there, fewer}
+use Rattle.memory.proofs.Tables.{Filled}
 use Rattle.memory.specs.Sizes.{base}
-use Rattle.memory.proofs.Rows.{base_is, base_past}
 use Rattle.memory.proofs.bases.Given as goal
 
 abbrev pub invariant-loop-q : goal.invariant-loop-q

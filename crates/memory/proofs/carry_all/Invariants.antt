@@ -1,20 +1,9 @@
-use Prim.Native.Nat.{ℕ, ◌+◌, ◌*◌, ◌-◌, ◌≤◌}
-use mathlib.Core.Path.{◌≡◌, refl, ◌∙◌}
-use native.Mathlib.Omega.{arith}
+use Prim.Native.Nat.{◌*◌, ◌-◌, ◌≤◌}
+use mathlib.Core.Path.{◌≡◌}
 use lib.ListN.{length, drop}
-use borrow.Author.Rules.{rules}
-use Rattle.numbers.specs.Words.{words}
-use Rattle.kernel.specs.File.{Rec, only}
 use Rattle.kernel.specs.Memory as Memory
-use Rattle.parts.proofs.Records.{record_next}
-use Rattle.parts.specs.Arrays.{array_at, arrays_of, HasArray, measure}
-use Rattle.parts.specs.declared.Measure.{Measure}
-use Rattle.parts.specs.declared.Measure.TheVariants.{Cells, Items}
-use Rattle.parts.proofs.Arrays.{array_there, array_fits}
-use Rattle.parts.proofs.Arrays as Arrays
-use Rattle.memory.proofs.Rows.{at_most, only_few}
+use Rattle.parts.specs.Arrays.{arrays_of}
 use Rattle.memory.specs.Items.{carried}
-use Rattle.memory.proofs.Carried.{array_next, arrays_over}
 use Rattle.memory.proofs.carry_all.Given as goal
 
 abbrev pub invariant-loop-j : goal.invariant-loop-j

@@ -1,11 +1,9 @@
 -- `memory::carry_array` meets its contract. The invariant: carrying the items from here on makes what carrying all makes of the first area.
-use Prim.Native.Nat.{◌+◌, ◌-◌, ◌<◌, ◌≤◌}
+use Prim.Native.Nat.{◌+◌, ◌<◌}
 use mathlib.Core.Path.{◌≡◌, refl, ap, ◌∙◌}
 use native.Mathlib.Nat.{add-zero, sub-zero}
 use native.Mathlib.Omega.{arith}
-use lib.ListN.{length}
 use lib.IntN.{nat_abs}
-use borrow.Author.Rules.{rules}
 use Rattle.numbers.proofs.Signs.{back, as_returned}
 use Rattle.kernel.specs.File.{Rec, first_of, count_of, step_of}
 use Rattle.kernel.specs.Memory.{listed}
@@ -60,8 +58,8 @@ loop-k-preserved c =
     let f = cell g.file.now g.j g.cells in
     let at : found.result ≡ f v.k = found.ensures ∙ ap (λ z. g.cells + nat_abs z) (nth_is (a (goal.at.loop-k-preserved c).In-loop-k) _ _ (first_is (goal.at.loop-k-preserved c).In-loop-k) (step_is (goal.at.loop-k-preserved c).In-loop-k) v.k) in (
       omega (arith, c.loop-k-test.true),
-      carry.auto.1.1.1.1.0 ∙ v.invariant.1,
-      items_next g.side g.from.now f g.items v.k g.count found.result v.to carry.new.1.1.1.1.0 c.loop-k-test.true at carry.ensures ∙ v.invariant.2,
+      carry.auto.to ∙ v.invariant.1,
+      items_next g.side g.from.now f g.items v.k g.count found.result v.to carry.new.to c.loop-k-test.true at carry.ensures ∙ v.invariant.2,
     )
 
 pub shape_of-to : goal.shape_of-to

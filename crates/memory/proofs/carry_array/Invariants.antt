@@ -1,16 +1,8 @@
-use Prim.Native.Nat.{◌+◌, ◌-◌, ◌<◌, ◌≤◌}
-use mathlib.Core.Path.{◌≡◌, refl, ap, ◌∙◌}
-use native.Mathlib.Nat.{add-zero, sub-zero}
-use native.Mathlib.Omega.{arith}
+use Prim.Native.Nat.{◌+◌, ◌-◌, ◌≤◌}
+use mathlib.Core.Path.{◌≡◌}
 use lib.ListN.{length}
-use lib.IntN.{nat_abs}
-use borrow.Author.Rules.{rules}
-use Rattle.numbers.proofs.Signs.{back, as_returned}
-use Rattle.kernel.specs.File.{Rec, first_of, count_of, step_of}
 use Rattle.kernel.specs.Memory.{listed}
-use Rattle.parts.specs.Arrays.{array_at}
 use Rattle.memory.specs.Items.{carried, cell}
-use Rattle.memory.proofs.Carried.{items_next, items_over, nth_is, in_order}
 use Rattle.memory.proofs.carry_array.Given as goal
 
 abbrev pub invariant-loop-k : goal.invariant-loop-k

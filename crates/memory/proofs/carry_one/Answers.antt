@@ -1,6 +1,5 @@
 -- `memory::carry_one` meets its contract.
 use mathlib.Core.Path.{ap, ◌∙◌}
-use borrow.Author.Rules.{rules}
 use borrow.Author.Tests.{eq-eqb, ne_eqb}
 use Rattle.numbers.specs.Areas.{put_word}
 use Rattle.memory.specs.Items.{carried_one}

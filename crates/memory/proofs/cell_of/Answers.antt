@@ -3,7 +3,6 @@ use mathlib.Core.Path.{◌≡◌, ap, ◌∙◌}
 use Prim.Native.Nat.{◌+◌}
 use native.Mathlib.Omega.{arith}
 use lib.IntN.{pos, nat_abs, ◌+ℤ◌, ◌*ℤ◌}
-use borrow.Author.Rules.{rules}
 use mir.Syntax.{w64}
 use mir.Val.{to_z}
 use Rattle.numbers.specs.Bounds.{Small}

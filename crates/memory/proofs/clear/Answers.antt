@@ -1,5 +1,4 @@
 -- `memory::clear` meets its contract. The invariant: zeros so far, and from here on what was there.
-use Prim.Native.Nat.{◌-◌, ◌≤◌}
 use mathlib.Core.Path.{◌≡◌, refl, ap, ◌∙◌}
 use mathlib.Core.List.{◌++◌, append-nil}
 use native.Mathlib.Omega.{arith}

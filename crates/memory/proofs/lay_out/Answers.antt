@@ -1,7 +1,6 @@
 -- `memory::lay_out` meets its contract: every item of the streams is written, so nothing of what stood there is left.
 use Prim.Native.Nat.{◌*◌}
 use mathlib.Core.Path.{sym, ap, ◌∙◌}
-use borrow.Author.Rules.{rules}
 use Rattle.kernel.specs.File.{input}
 use Rattle.kernel.specs.Memory.{cells}
 use Rattle.kernel.proofs.Orders.{cells_length}

@@ -1,14 +1,11 @@
 -- `memory::moved` meets its contract. The invariant: what is added so far and the places of the arrays from here on are the whole.
-use Prim.Native.Nat.{◌+◌, ◌*◌, ◌-◌, ◌≤◌}
-use mathlib.Core.Path.{◌≡◌, sym, ap, ◌∙◌}
+use mathlib.Core.Path.{sym, ap, ◌∙◌}
 use native.Mathlib.Nat.{zero-add}
 use native.Mathlib.Omega.{arith}
 use borrow.Author.Rules.{rules}
-use lib.ListN.{get_or, drop}
+use lib.ListN.{get_or}
 use Rattle.kernel.specs.File.{only}
-use Rattle.kernel.specs.Machine.{State}
-use Rattle.kernel.specs.Memory as Memory
-use Rattle.parts.specs.Arrays.{array_at, arrays_of}
+use Rattle.parts.specs.Arrays.{array_at}
 use Rattle.parts.proofs.Arrays.{array_there}
 use Rattle.memory.proofs.Rows.{moved_next, moved_over}
 use Rattle.memory.proofs.moved.Goals as goal

@@ -1,15 +1,9 @@
 use Prim.Native.Nat.{◌+◌, ◌*◌, ◌-◌, ◌≤◌}
-use mathlib.Core.Path.{◌≡◌, sym, ap, ◌∙◌}
-use native.Mathlib.Nat.{zero-add}
-use native.Mathlib.Omega.{arith}
-use borrow.Author.Rules.{rules}
-use lib.ListN.{get_or, drop}
-use Rattle.kernel.specs.File.{only}
+use mathlib.Core.Path.{◌≡◌}
+use lib.ListN.{drop}
 use Rattle.kernel.specs.Machine.{State}
 use Rattle.kernel.specs.Memory as Memory
-use Rattle.parts.specs.Arrays.{array_at, arrays_of}
-use Rattle.parts.proofs.Arrays.{array_there}
-use Rattle.memory.proofs.Rows.{moved_next, moved_over}
+use Rattle.parts.specs.Arrays.{arrays_of}
 use Rattle.memory.proofs.moved.Given as goal
 
 abbrev pub invariant-loop-q : goal.invariant-loop-q

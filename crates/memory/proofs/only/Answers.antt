@@ -1,5 +1,4 @@
 -- `memory::only` meets its contract, by the array's side.
-use borrow.Author.Rules.{rules}
 use Rattle.parts.specs.Arrays.{array_at, measure}
 use Rattle.memory.proofs.Rows.{only_here, only_other}
 use Rattle.memory.proofs.only.Goals as goal

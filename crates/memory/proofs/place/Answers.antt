@@ -1,5 +1,4 @@
 -- `memory::place` meets its contract, by the array's side.
-use borrow.Author.Rules.{rules}
 use lib.ListN.{get_or}
 use Rattle.parts.specs.Arrays.{array_at}
 use Rattle.memory.proofs.Rows.{only_here, only_other}

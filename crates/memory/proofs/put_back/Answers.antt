@@ -3,7 +3,6 @@ use Prim.Native.Nat.{◌*◌}
 use mathlib.Core.Path.{sym, ap, ◌∙◌}
 use mathlib.Core.List.{map}
 use lib.ListN.{replicate}
-use borrow.Author.Rules.{rules}
 use Rattle.numbers.specs.Lists.{sum}
 use Rattle.kernel.specs.File.{output, only, length_of}
 use Rattle.kernel.specs.Memory.{cells}

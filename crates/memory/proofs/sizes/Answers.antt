@@ -1,10 +1,10 @@
 -- `memory::sizes` meets its contract. The invariant: the table is filled so far; past the last array there is none, and so no cell.
-use Prim.Native.Nat.{◌-◌, ◌<◌, ◌≤◌}
+use Prim.Native.Nat.{◌<◌}
 use mathlib.Core.Path.{sym, ap, ◌∙◌}
 use native.Mathlib.Omega.{arith}
 use borrow.Author.Rules.{rules}
 use Rattle.parts.specs.Arrays.{arrays_of, measure}
-use Rattle.memory.proofs.Tables.{Filled, filled_none, filled_more, filled_all}
+use Rattle.memory.proofs.Tables.{filled_none, filled_more, filled_all}
 use Rattle.parts.proofs.Arrays.{array_there, array_is, array_past, measure_nothing}
 use Rattle.memory.specs.Sizes.{size}
 use Rattle.memory.proofs.sizes.Goals.{After-size_of}

@@ -1,10 +1,6 @@
-use Prim.Native.Nat.{◌-◌, ◌<◌, ◌≤◌}
-use mathlib.Core.Path.{sym, ap, ◌∙◌}
-use native.Mathlib.Omega.{arith}
-use borrow.Author.Rules.{rules}
-use Rattle.parts.specs.Arrays.{arrays_of, measure}
-use Rattle.memory.proofs.Tables.{Filled, filled_none, filled_more, filled_all}
-use Rattle.parts.proofs.Arrays.{array_there, array_is, array_past, measure_nothing}
+use Prim.Native.Nat.{◌-◌, ◌≤◌}
+use Rattle.parts.specs.Arrays.{arrays_of}
+use Rattle.memory.proofs.Tables.{Filled}
 use Rattle.memory.specs.Sizes.{size}
 use Rattle.memory.proofs.sizes.Given as goal
 

@@ -1,15 +1,12 @@
 -- `memory::total` meets its contract. The invariant: what is added so far and the sum of the arrays from here on are the whole.
-use Prim.Native.Nat.{◌+◌, ◌*◌, ◌-◌, ◌≤◌}
-use mathlib.Core.Path.{◌≡◌}
+use Prim.Native.Nat.{◌≤◌}
 use native.Mathlib.Nat.{zero-add}
 use native.Mathlib.Omega.{arith}
 use borrow.Author.Rules.{rules}
-use lib.ListN.{drop}
 use Rattle.kernel.specs.File as File
-use Rattle.parts.specs.Arrays.{arrays_of, measure}
+use Rattle.parts.specs.Arrays.{measure}
 use Rattle.parts.proofs.Arrays.{array_there}
 use Rattle.memory.proofs.Rows.{only_few, sum_next, sum_over}
-use Rattle.memory.specs.Sizes.{total}
 use Rattle.memory.proofs.total.Goals.{After-only-t}
 use Rattle.memory.proofs.total.Goals as goal
 

@@ -1,13 +1,7 @@
 use Prim.Native.Nat.{◌+◌, ◌*◌, ◌-◌, ◌≤◌}
 use mathlib.Core.Path.{◌≡◌}
-use native.Mathlib.Nat.{zero-add}
-use native.Mathlib.Omega.{arith}
-use borrow.Author.Rules.{rules}
 use lib.ListN.{drop}
-use Rattle.kernel.specs.File as File
-use Rattle.parts.specs.Arrays.{arrays_of, measure}
-use Rattle.parts.proofs.Arrays.{array_there}
-use Rattle.memory.proofs.Rows.{only_few, sum_next, sum_over}
+use Rattle.parts.specs.Arrays.{arrays_of}
 use Rattle.memory.specs.Sizes.{total}
 use Rattle.memory.proofs.total.Given as goal
 

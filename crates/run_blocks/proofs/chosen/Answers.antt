@@ -8,7 +8,6 @@ use Rattle.parts.proofs.Records.{count_is}
 use Rattle.run_ends.proofs.After.{in_if_block, first_ends}
 use Rattle.run_blocks.specs.View.{taken}
 use Rattle.run_blocks.proofs.Standing.{rs, st, here, near, p_is, if_register, takes_none, takes_second, takes_first}
-use borrow.Author.Rules.{rules}
 use Rattle.run_blocks.proofs.chosen.Goals.{After-word-p}
 use Rattle.run_blocks.proofs.chosen.Goals as goal
 
@@ -23,7 +22,6 @@ overflow_add-part-2 c = omega (arith, (near c.requires).2)
 
 -- where the register's number is read
 module _ (c : After-word-p) where
-
   number : c.word-p.result ≡ (get_or (rs c.requires) c.args.i nothing).p
   number = c.word-p.ensures ∙ p_is c.requires
 

@@ -1,6 +1,5 @@
 -- `run_ends::depth_after` meets its contract: one law for each test that is passed.
 use mathlib.Core.Path.{sym}
-use borrow.Author.Rules.{rules}
 use Rattle.run_ends.proofs.Scan.{depth_after_plain, depth_after_for, depth_after_if, depth_after_closing}
 use Rattle.run_ends.proofs.depth_after.Goals as goal
 

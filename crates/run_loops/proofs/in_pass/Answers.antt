@@ -5,7 +5,6 @@ use native.Mathlib.Omega.{arith}
 use Rattle.numbers.proofs.Signs.{as_returned}
 use Rattle.kernel.specs.Machine.{Counters}
 use Rattle.run_loops.proofs.Small.{deeper_counters, deeper_small}
-use borrow.Author.Rules.{rules}
 use Rattle.run_loops.proofs.in_pass.Goals as goal
 
 pub overflow_sub-inner : goal.overflow_sub-inner

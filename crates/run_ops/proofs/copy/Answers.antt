@@ -1,7 +1,6 @@
 -- `run_ops::copy` meets its contract: the register that is copied is set or not.
 use native.Mathlib.Omega.{arith}
 use Rattle.run_ops.proofs.Registers.{copy_unset, copies}
-use borrow.Author.Rules.{rules}
 use Rattle.run_ops.proofs.copy.Goals as goal
 
 pub returns-then-w-ge-NO_WORD : goal.returns-then-w-ge-NO_WORD

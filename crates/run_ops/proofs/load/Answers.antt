@@ -7,7 +7,6 @@ use Rattle.run_loops.specs.View.{counters}
 use Rattle.run_ops.specs.Layout.{layout}
 use Rattle.run_ops.proofs.Index.{number_in, number_out}
 use Rattle.run_ops.proofs.Cells.{cell_there, load_outside, loads}
-use borrow.Author.Rules.{rules}
 use Rattle.run_ops.proofs.load.Goals as goal
 
 pub returns-then-i-n : goal.returns-then-i-n

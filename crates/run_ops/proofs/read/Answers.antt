@@ -4,7 +4,6 @@ use Rattle.numbers.specs.Words.{words}
 use Rattle.run_ops.specs.Layout.{layout}
 use Rattle.run_ops.proofs.Index.{place_in, place_out}
 use Rattle.run_ops.proofs.Cells.{cell_there, read_empty, reads}
-use borrow.Author.Rules.{rules}
 use Rattle.run_ops.proofs.read.Goals as goal
 
 pub returns-then-next-n : goal.returns-then-next-n

@@ -5,7 +5,6 @@ use Rattle.numbers.specs.Result.{ok}
 use Rattle.kernel.specs.File.{add, subtract, multiply, divide, operator}
 use Rattle.kernel.specs.Machine as Machine
 use Rattle.run_ops.proofs.Registers.{divides, quotient, no_quotient, gives, gives_none}
-use borrow.Author.Rules.{rules}
 use Rattle.run_ops.proofs.result.Goals as goal
 
 pub returns-then-operator-eq1 : goal.returns-then-operator-eq1

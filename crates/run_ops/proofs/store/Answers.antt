@@ -10,7 +10,6 @@ use Rattle.run_loops.specs.View.{counters}
 use Rattle.run_ops.specs.Layout.{layout}
 use Rattle.run_ops.proofs.Index.{number_in, number_out}
 use Rattle.run_ops.proofs.Cells.{words_after, whole_after, store_unset, store_outside, stores}
-use borrow.Author.Rules.{rules}
 use Rattle.run_ops.proofs.store.Goals.{After-cell_number-j}
 use Rattle.run_ops.proofs.store.Goals as goal
 
@@ -22,7 +21,6 @@ returns-then-v-ge-NO_WORD c =
 
 -- where the cell's number is found: what is stored, and at which index
 module _ (c : After-cell_number-j) where
-
   abbrev stored : ℕ
   stored = get_or c.args.registers.now c.args.p 0
 

@@ -2,7 +2,6 @@
 use native.Mathlib.Omega.{arith}
 use Rattle.kernel.specs.File.{operator}
 use Rattle.run_ops.proofs.Registers.{work_unset, work_unset_k, work_none, works}
-use borrow.Author.Rules.{rules}
 use Rattle.run_ops.proofs.work.Goals as goal
 
 pub returns-then-a-ge-NO_WORD : goal.returns-then-a-ge-NO_WORD

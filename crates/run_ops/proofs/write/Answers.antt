@@ -6,7 +6,6 @@ use Rattle.numbers.specs.Words.{words}
 use Rattle.run_ops.specs.Layout.{layout}
 use Rattle.run_ops.proofs.Index.{place_in, place_out}
 use Rattle.run_ops.proofs.Cells.{words_after, whole_after, write_unset, write_full, writes}
-use borrow.Author.Rules.{rules}
 use Rattle.run_ops.proofs.write.Goals.{After-entry-n}
 use Rattle.run_ops.proofs.write.Goals as goal
 
@@ -18,7 +17,6 @@ returns-then-w-ge-NO_WORD c =
 
 -- where the stream's count is found: what is written
 module _ (c : After-entry-n) where
-
   abbrev written : ℕ
   written = get_or c.args.registers.now c.args.p 0
 
