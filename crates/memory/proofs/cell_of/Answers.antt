@@ -12,19 +12,19 @@ use Rattle.memory.proofs.cell_of.Goals.{Start}
 use Rattle.memory.proofs.cell_of.Goals as goal
 
 module _ (c : Start) where
-  item-small : Small 4096 (pos c.args.i)
-  item-small = record { abs = omega (arith, c.requires.1.few) }
+  item_small : Small 4096 (pos c.args.i)
+  item_small = record { abs = omega (arith, c.requires.1.few) }
 
   index_is : back (back c.args.first +ℤ back (back c.args.step *ℤ to_z w64 c.args.i)) ≡ nth c.args.first c.args.step c.args.i
   index_is =
-      (λ k. back (as_it_is c.requires.1.first_small tt k +ℤ back_product c.requires.1.step_small item-small tt tt tt k))
-      ∙ as_it_is (small_add c.requires.1.first_small (small_mul c.requires.1.step_small item-small)) tt
+      (λ k. back (as_it_is c.requires.1.first_small tt k +ℤ back_product c.requires.1.step_small item_small tt tt tt k))
+      ∙ as_it_is (small_add c.requires.1.first_small (small_mul c.requires.1.step_small item_small)) tt
 
 pub overflow_mul-result : goal.overflow_mul-result
-overflow_mul-result c = fits (product_back c.requires.1.step_small (item-small c)) tt
+overflow_mul-result c = fits (product_back c.requires.1.step_small (item_small c)) tt
 
 pub overflow_add-result : goal.overflow_add-result
-overflow_add-result c = fits (sum_back c.requires.1.first_small (product_back c.requires.1.step_small (item-small c))) tt
+overflow_add-result c = fits (sum_back c.requires.1.first_small (product_back c.requires.1.step_small (item_small c))) tt
 
 pub overflow_cast-result-2 : goal.overflow_cast-result-2
 overflow_cast-result-2 c =
