@@ -18,7 +18,6 @@ use Rattle.run_calls.proofs.lay_out_of.Goals as goal
 
 -- what the test says of the lengths
 module _ (c : After-right_lengths) where
-
   lengths : {t : Bool} → c.right_lengths.result ≡ t → (eqb (length c.args.arrays.now) (4 * Memory.total input (measure Cells) c) && eqb (length c.args.streams.now) (4 * Memory.total input (measure Items) c)) ≡ t
   lengths e = both_as c.args.file.now c.args.c c.of-first.ensures c.of-second.ensures _ c.right_lengths.ensures _ e
 

@@ -64,7 +64,6 @@ run_block-s-requires c =
 
 -- where the program has run
 module _ (c : After-run_block-s) where
-
   abbrev memory : List ℕ
   memory = words c.args.input.now
 
