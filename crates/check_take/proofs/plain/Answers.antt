@@ -48,7 +48,7 @@ took-requires c =
 
 pub returns-then-not-steps : goal.returns-then-not-steps
 returns-then-not-steps c =
-    let same = unchanged (file (goal.at.returns-then-not-steps c).After-stream_next-s) (counts (goal.at.returns-then-not-steps c).After-stream_next-s) (line (goal.at.returns-then-not-steps c).After-stream_next-s) _ _ (l (goal.at.returns-then-not-steps c).After-stream_next-s) (sym c.steps.ensures ∙ not-true _ c.if-not-steps.true) in
+    let same = unchanged (file (goal.at.returns-then-not-steps c).After-stream_next-s) (counts (goal.at.returns-then-not-steps c).After-stream_next-s) (line (goal.at.returns-then-not-steps c).After-stream_next-s) _ _ (l (goal.at.returns-then-not-steps c).After-stream_next-s) (sym c.steps.ensures ∙ c.if-not-steps.true) in
     plain_taken c.refuses-number.ensures c.requires.0 c.requires.2 (next (goal.at.returns-then-not-steps c).After-stream_next-s) c.if-number-ne0.false same c.arrays_taken.ensures c.took.ensures
 
 pub step-requires : goal.step-requires

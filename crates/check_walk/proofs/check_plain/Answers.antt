@@ -46,7 +46,7 @@ module _ (c : At-loop-at) where
 module _ (c : After-between) where
 
   there : AtRule (file ⟪At-loop-at⟫) (counts ⟪At-loop-at⟫) c.loop-at.at c.loop-at.l
-  there = record { reads = c.requires.0; stood = c.loop-at.inv.0.stood; there = c.loop-at-test.true }
+  there = record { reads = c.requires.0; stood = c.loop-at.invariant.0.stood; there = c.loop-at-test.true }
 
 -- it is plain, and has been taken
 module _ (c : After-plain-r) where
@@ -73,7 +73,7 @@ pub returns-then-between : goal.returns-then-between
 returns-then-between c =
     let n = c.code_next-code in
     let between = sym c.between.ensures ∙ c.if-between.true in
-    walked_here (goal.at.returns-then-between c).At-loop-at (past-it c.loop-at.inv.2 (λ p. not_plain n.result between (subst Plain (sym n.ensures) p))) _ (ap (λ r. with_ledger r c.loop-at.l) c.stays.ensures)
+    walked_here (goal.at.returns-then-between c).At-loop-at (past-it c.loop-at.invariant.2 (λ p. not_plain n.result between (subst Plain (sym n.ensures) p))) _ (ap (λ r. with_ledger r c.loop-at.l) c.stays.ensures)
 
 pub plain-r-requires : goal.plain-r-requires
 plain-r-requires c =
@@ -91,9 +91,9 @@ pub loop-at-preserved : goal.loop-at-preserved
 loop-at-preserved c =
     let z = c.if-r-ne0.false in
     let f = (walked (goal.at.loop-at-preserved c).After-plain-r).1 z in (
-      further_then c.loop-at.inv.0 f.0,
+      further_then c.loop-at.invariant.0 f.0,
       (λ os k. subst (λ n. Goes (file (goal.at.loop-at-preserved c).At-loop-at) (counts (goal.at.loop-at-preserved c).At-loop-at) os (from (goal.at.loop-at-preserved c).At-loop-at) os (record { number = n; at = (after (goal.at.loop-at-preserved c).After-plain-r).at; ledger = (after (goal.at.loop-at-preserved c).After-plain-r).ledger })) z (goes (goal.at.loop-at-preserved c).After-plain-r os k)),
-      inl (omega (arith, c.loop-at.inv.0.further_on, f.1)),
+      inl (omega (arith, c.loop-at.invariant.0.further_on, f.1)),
     )
 
 pub returns : goal.returns

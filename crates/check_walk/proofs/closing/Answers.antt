@@ -13,4 +13,4 @@ returns-then-not-inside c file k l there code =
 pub returns : goal.returns
 returns c file k l there code =
     let a = c.args in
-    stands file k a.inside a.at l c.stays-2.ensures (rests_inside file k a.inside a.at (not-false _ c.if-not-inside.false) there code)
+    stands file k a.inside a.at l c.stays-2.ensures (rests_inside file k a.inside a.at (c.if-not-inside.false) there code)
