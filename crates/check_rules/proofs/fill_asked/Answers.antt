@@ -1,6 +1,5 @@
 -- `check_rules::fill_asked` meets its contract: one test.
 use mathlib.Core.Path.{sym, ap, ◌∙◌}
-use borrow.Author.Rules.{rules}
 use Rattle.forms.specs.Form as F
 use Rattle.forms.specs.Code.{form, loops}
 use Rattle.kernel.specs.File.{count_of}

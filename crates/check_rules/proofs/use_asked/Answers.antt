@@ -1,6 +1,5 @@
 -- `check_rules::use_asked` meets its contract: the buffer against a row that states the load's array and index.
 use mathlib.Core.Path.{◌≡◌, sym, ap, ◌∙◌}
-use borrow.Author.Rules.{rules}
 use Rattle.numbers.proofs.Signs.{as_returned}
 use Rattle.forms.specs.Code.{loops}
 use Rattle.kernel.specs.File as File
@@ -14,7 +13,6 @@ use Rattle.check_rules.proofs.use_asked.Goals as goal
 
 -- the test is whether the buffer holds just that
 module _ (c : After-row_true) where
-
   held_there : L.holds_just (loops c.args.around) (L.held c.args.a.q (File.form (rec c.args.a))) (held c.args.h) ≡ c.row_true.result
   held_there =
       let number = c.number_of-number in
