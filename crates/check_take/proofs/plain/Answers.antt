@@ -4,8 +4,6 @@ use mathlib.Core.Path.{sym, ◌∙◌}
 use mathlib.Core.List.{List}
 use native.Mathlib.Omega.{arith}
 use lib.IntN.{ℤ}
-use borrow.Author.Rules.{rules}
-use borrow.Author.Tests.{not-true}
 use Rattle.kernel.specs.Derivation.{Rule, rule}
 use Rattle.parts.specs.declared.Counts.{Counts}
 use Rattle.check_rules.proofs.Effects.{unchanged}
@@ -18,7 +16,6 @@ use Rattle.check_take.proofs.plain.Goals as goal
 
 -- the next statements have been read
 module _ (c : After-stream_next-s) where
-
   abbrev file : List ℕ
   file = c.args.file.now
 
