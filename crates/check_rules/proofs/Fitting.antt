@@ -1,16 +1,15 @@
 -- The rules by their codes, and tests joined by `&&`.
 use Prim.Native.Nat.{ℕ, zero, suc}
 use mathlib.Core.Path.{◌≡◌, refl, sym, ◌∙◌}
-use mathlib.Core.Bool.{Bool, true, false, not, ◌&&◌}
-use borrow.Author.Tests.{not-true, not-false}
+use mathlib.Core.Bool.{Bool, true, false, ◌&&◌}
 use Rattle.kernel.specs.Derivation.{no_rule, rule}
 
 -- a test t as the code answers it, and whether the code goes on after `!`
-pub refused : {r t : Bool} → r ≡ t → not r ≡ true → t ≡ false
-refused {r} e h = sym e ∙ not-true r h
+pub refused : {r t : Bool} → r ≡ t → r ≡ false → t ≡ false
+refused e h = sym e ∙ h
 
-pub passed : {r t : Bool} → r ≡ t → not r ≡ false → t ≡ true
-passed {r} e h = sym e ∙ not-false r h
+pub passed : {r t : Bool} → r ≡ t → r ≡ true → t ≡ true
+passed e h = sym e ∙ h
 
 pub grouped : (a b c d : Bool) → a && b && c && d ≡ a && (b && (c && d))
 grouped true true c d = refl

@@ -1,7 +1,7 @@
 -- How the code takes the rule at a place: refused with 10 where it does not fit or does not close the innermost block, else by its effect.
 use Prim.Native.Nat.{ℕ}
 use mathlib.Core.Path.{◌≡◌, refl, sym, ap, ◌∙◌}
-use mathlib.Core.Bool.{Bool, true, false, cond, not, ◌&&◌, ◌||◌, false≢true}
+use mathlib.Core.Bool.{Bool, true, false, cond, ◌&&◌, ◌||◌, false≢true}
 use mathlib.Core.Logic.{◌⊎◌, inl, inr}
 use mathlib.Core.List.{List, [], ◌∷◌, ◌++◌}
 use native.Mathlib.Omega.{arith}
@@ -76,23 +76,23 @@ module _ (file : List ℕ) (c : Counts) (os : List Opened) (at : Place) (l : Lis
   abbrev pub Said : ℕ → Bool → Type 0
   Said code t = (d : Derivation.Place) → t ≡ (eqb (rule_code file c at) code && fits_there file c at code d)
 
-  closed : (code : ℕ) {t : Bool} → Said code t → not t ≡ false → eqb (rule_code file c at) code && Fitting file c os at l code ≡ true
+  closed : (code : ℕ) {t : Bool} → Said code t → t ≡ true → eqb (rule_code file c at) code && Fitting file c os at l code ≡ true
   closed code s p = passed (s (here file c os at l)) p
 
-  pub closed_fits : (code : ℕ) {t : Bool} → Said code t → not t ≡ false → Fitting file c os at l code ≡ true
+  pub closed_fits : (code : ℕ) {t : Bool} → Said code t → t ≡ true → Fitting file c os at l code ≡ true
   closed_fits code s p = and_right (eqb (rule_code file c at) code) (Fitting file c os at l code) (closed code s p)
 
-  pub closes : (code : ℕ) {t : Bool} {x : Result ℕ Derivation.Place} → Said code t → not t ≡ false → Effect file c os at l code ≡ x → Comes file c os at l x
+  pub closes : (code : ℕ) {t : Bool} {x : Result ℕ Derivation.Place} → Said code t → t ≡ true → Effect file c os at l code ≡ x → Comes file c os at l x
   closes code s p = fit file c os at l code (eqb-true (rule_code file c at) code (and_left _ (Fitting file c os at l code) (closed code s p))) (closed_fits code s p)
 
-  not_closed : (code : ℕ) {t : Bool} → rule_code file c at ≡ code → Said code t → not t ≡ true → Comes file c os at l (stop 10)
+  not_closed : (code : ℕ) {t : Bool} → rule_code file c at ≡ code → Said code t → t ≡ false → Comes file c os at l (stop 10)
   not_closed code e s p = unfit file c os at l code e (sym (ap (λ t. t && Fitting file c os at l code) (eq-eqb (rule_code file c at) code e)) ∙ refused (s (here file c os at l)) p)
 
-  pub not_else : {t : Bool} → Closing (rule_code file c at) → Effect file c os at l 10 ≡ stop 10 → Said 9 t → not t ≡ true → Comes file c os at l (stop 10)
+  pub not_else : {t : Bool} → Closing (rule_code file c at) → Effect file c os at l 10 ≡ stop 10 → Said 9 t → t ≡ false → Comes file c os at l (stop 10)
   not_else (inl e) f s p = not_closed 9 e s p
   not_else (inr e) f s p = misplaced file c os at l 10 e f
 
-  pub not_end : {t : Bool} → Closing (rule_code file c at) → Effect file c os at l 9 ≡ stop 10 → Said 10 t → not t ≡ true → Comes file c os at l (stop 10)
+  pub not_end : {t : Bool} → Closing (rule_code file c at) → Effect file c os at l 9 ≡ stop 10 → Said 10 t → t ≡ false → Comes file c os at l (stop 10)
   not_end (inl e) f s p = misplaced file c os at l 9 e f
   not_end (inr e) f s p = not_closed 10 e s p
 

@@ -1,6 +1,5 @@
 -- `check_ledger::buffer` meets its contract.
 use mathlib.Core.Path.{sym, ◌∙◌}
-use borrow.Author.Rules.{rules}
 use Rattle.check_ledger.proofs.Entries.{buffer_at}
 use Rattle.check_ledger.proofs.buffer.Goals as goal
 

@@ -1,12 +1,10 @@
 -- `check_ledger::keep_buffers` meets its contract.
-use Prim.Native.Nat.{◌-◌}
 use mathlib.Core.Path.{ap₂, ◌∙◌}
 use native.Mathlib.Omega.{arith}
-use borrow.Author.Rules.{rules}
 use Rattle.forms.specs.Code.{loops}
 use Rattle.kernel.specs.Ledger as L
 use Rattle.check_ledger.specs.View.{held}
-use Rattle.check_ledger.proofs.Tests.{Keeping, keep_starts, keep_more, keep_all}
+use Rattle.check_ledger.proofs.Tests.{keep_starts, keep_more, keep_all}
 use Rattle.check_ledger.proofs.keep_buffers.Goals as goal
 
 pub loop-i-init : goal.loop-i-init

@@ -1,11 +1,6 @@
 use Prim.Native.Nat.{◌-◌}
-use mathlib.Core.Path.{ap₂, ◌∙◌}
-use native.Mathlib.Omega.{arith}
-use borrow.Author.Rules.{rules}
 use Rattle.forms.specs.Code.{loops}
-use Rattle.kernel.specs.Ledger as L
-use Rattle.check_ledger.specs.View.{held}
-use Rattle.check_ledger.proofs.Tests.{Keeping, keep_starts, keep_more, keep_all}
+use Rattle.check_ledger.proofs.Tests.{Keeping}
 use Rattle.check_ledger.proofs.keep_buffers.Given as goal
 
 abbrev pub invariant-loop-i : goal.invariant-loop-i

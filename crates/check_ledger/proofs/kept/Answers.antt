@@ -1,6 +1,5 @@
 -- `check_ledger::kept` meets its contract.
 use mathlib.Core.Path.{sym, ◌∙◌}
-use borrow.Author.Rules.{rules}
 use Rattle.check_ledger.specs.View.{numbered, held}
 use Rattle.check_ledger.proofs.Tests.{kept_both, kept_not}
 use Rattle.check_ledger.proofs.kept.Goals as goal

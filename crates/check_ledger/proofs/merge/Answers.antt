@@ -1,5 +1,4 @@
 -- `check_ledger::merge` meets its contract.
-use borrow.Author.Rules.{rules}
 use Rattle.check_ledger.proofs.Tests.{merged_right, merged_bounded}
 use Rattle.check_ledger.proofs.merge.Goals as goal
 

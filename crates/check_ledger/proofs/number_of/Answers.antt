@@ -6,7 +6,6 @@ use lib.IntN.{pos, ◌+ℤ◌}
 use mir.Syntax.{w64}
 use mir.Val.{to_z, of_z}
 use mir.Facts.{to_z_pos}
-use borrow.Author.Rules.{rules}
 use Rattle.numbers.specs.Bounds.{Small}
 use Rattle.numbers.proofs.Signs.{as_it_is, fits}
 use Rattle.check_ledger.proofs.number_of.Goals.{Start}

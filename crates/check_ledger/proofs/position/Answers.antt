@@ -1,6 +1,5 @@
 -- `check_ledger::position` meets its contract.
 use mathlib.Core.Path.{sym, ap, ◌∙◌}
-use borrow.Author.Rules.{rules}
 use Rattle.check_ledger.specs.declared.Held.{Held}
 use Rattle.check_ledger.proofs.Entries.{position_at}
 use Rattle.check_ledger.proofs.position.Goals as goal

@@ -1,6 +1,5 @@
 -- `check_ledger::put_buffer` meets its contract.
 use mathlib.Core.Path.{sym, subst}
-use borrow.Author.Rules.{rules}
 use Rattle.check_ledger.specs.View.{Holding}
 use Rattle.check_ledger.proofs.Entries.{holding}
 use Rattle.check_ledger.proofs.put_buffer.Goals as goal

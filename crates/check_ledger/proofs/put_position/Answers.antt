@@ -1,7 +1,6 @@
 -- `check_ledger::put_position` meets its contract.
 use mathlib.Core.Path.{sym, subst}
 use lib.IntN.{pos}
-use borrow.Author.Rules.{rules}
 use Rattle.check_ledger.specs.View.{Positioned}
 use Rattle.check_ledger.proofs.Entries.{positioned}
 use Rattle.check_ledger.proofs.put_position.Goals as goal

@@ -1,8 +1,6 @@
 -- `check_ledger::take_positions` meets its contract.
-use Prim.Native.Nat.{◌-◌}
 use native.Mathlib.Omega.{arith}
-use borrow.Author.Rules.{rules}
-use Rattle.check_ledger.proofs.Tests.{Taking, take_starts, take_more, take_all}
+use Rattle.check_ledger.proofs.Tests.{take_starts, take_more, take_all}
 use Rattle.check_ledger.proofs.take_positions.Goals as goal
 
 pub loop-i-init : goal.loop-i-init

@@ -1,7 +1,5 @@
 use Prim.Native.Nat.{◌-◌}
-use native.Mathlib.Omega.{arith}
-use borrow.Author.Rules.{rules}
-use Rattle.check_ledger.proofs.Tests.{Taking, take_starts, take_more, take_all}
+use Rattle.check_ledger.proofs.Tests.{Taking}
 use Rattle.check_ledger.proofs.take_positions.Given as goal
 
 abbrev pub invariant-loop-i : goal.invariant-loop-i

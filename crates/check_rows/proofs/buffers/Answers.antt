@@ -1,16 +1,9 @@
 -- `check_rows::buffers` meets its contract. Invariant: the first i are what the first i rows state, and all forms are small.
-use Prim.Native.Nat.{◌-◌}
-use mathlib.Core.Path.{◌≡◌, refl, ◌∙◌}
-use mathlib.Core.List.{map}
+use mathlib.Core.Path.{refl, ◌∙◌}
 use native.Mathlib.Omega.{arith}
-use lib.ListN.{take, drop}
-use borrow.Author.Rules.{rules}
 use Rattle.kernel.specs.Derivation.{row_held}
-use Rattle.parts.specs.Parts.{records_in}
-use Rattle.check_ledger.specs.View.{positions, buffers, held}
 use Rattle.check_ledger.proofs.Entries.{buffers_long}
-use Rattle.check_ledger.proofs.Loops.{Written, written_starts, written_all}
-use Rattle.check_rows.specs.Changes.{Stated}
+use Rattle.check_ledger.proofs.Loops.{written_starts, written_all}
 use Rattle.check_rows.proofs.Stating.{row_written, small_form, buffer_stated}
 use Rattle.check_rows.proofs.buffers.Goals as goal
 

@@ -1,15 +1,13 @@
 -- `check_rows::buffers_left` meets its contract. Invariant: the first i buffers hold what those of the rows do, changed.
-use Prim.Native.Nat.{◌-◌}
-use mathlib.Core.Path.{◌≡◌, refl, ap, ◌∙◌}
+use mathlib.Core.Path.{refl, ap, ◌∙◌}
 use native.Mathlib.Omega.{arith}
-use borrow.Author.Rules.{rules}
 use Rattle.kernel.specs.Ledger as L
-use Rattle.check_ledger.specs.View.{Whole, positions, buffers, held, nothing}
+use Rattle.check_ledger.specs.View.{held, nothing}
 use Rattle.check_ledger.proofs.Entries.{buffers_long}
-use Rattle.check_ledger.proofs.Loops.{Written, written_starts, written_all}
+use Rattle.check_ledger.proofs.Loops.{written_starts, written_all}
 use Rattle.check_rows.specs.Changes.{with_change}
 use Rattle.check_rows.proofs.Stating.{buffer_small}
-use Rattle.check_rows.proofs.Changes.{first_changed, changed_more}
+use Rattle.check_rows.proofs.Changes.{changed_more}
 use Rattle.check_rows.proofs.buffers_left.Goals as goal
 
 pub loop-i-init : goal.loop-i-init

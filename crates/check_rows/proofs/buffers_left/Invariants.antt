@@ -1,14 +1,10 @@
 use Prim.Native.Nat.{◌-◌}
-use mathlib.Core.Path.{◌≡◌, refl, ap, ◌∙◌}
-use native.Mathlib.Omega.{arith}
-use borrow.Author.Rules.{rules}
+use mathlib.Core.Path.{◌≡◌}
 use Rattle.kernel.specs.Ledger as L
-use Rattle.check_ledger.specs.View.{Whole, positions, buffers, held, nothing}
-use Rattle.check_ledger.proofs.Entries.{buffers_long}
-use Rattle.check_ledger.proofs.Loops.{Written, written_starts, written_all}
+use Rattle.check_ledger.specs.View.{Whole, positions, buffers, held}
+use Rattle.check_ledger.proofs.Loops.{Written}
 use Rattle.check_rows.specs.Changes.{with_change}
-use Rattle.check_rows.proofs.Stating.{buffer_small}
-use Rattle.check_rows.proofs.Changes.{first_changed, changed_more}
+use Rattle.check_rows.proofs.Changes.{first_changed}
 use Rattle.check_rows.proofs.buffers_left.Given as goal
 
 abbrev pub invariant-loop-i : goal.invariant-loop-i

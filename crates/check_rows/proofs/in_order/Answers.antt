@@ -1,14 +1,10 @@
 -- `check_rows::in_order` meets its contract. The invariant: the test of the rows left is the test of all.
-use Prim.Native.Nat.{ℕ, ◌+◌, ◌-◌}
+use Prim.Native.Nat.{ℕ, ◌+◌}
 use mathlib.Core.Path.{◌≡◌, sym, ap, ◌∙◌}
 use mathlib.Core.Bool.{Bool, ◌&&◌}
 use mathlib.Core.List.{List}
 use native.Mathlib.Omega.{arith}
-use borrow.Author.Rules.{rules}
-use borrow.Author.Tests.{not-true, not-false}
-use lib.ListN.{drop}
 use Rattle.kernel.specs.File.{Rec}
-use Rattle.kernel.specs.Check as Check
 use Rattle.parts.specs.Records.{rec}
 use Rattle.parts.specs.Parts.{records_in}
 use Rattle.parts.proofs.Records.{count_is}
@@ -20,23 +16,23 @@ module _ (s : Start) where
   abbrev records : List Rec
   records = records_in s.args.file.now s.args.part
 
-  -- the test of the rows left
-  abbrev rows : ℕ → Bool
-  rows = left s.args.code s.args.level s.args.n records s.args.from
-
 -- by the next of them
 module _ (c : After-record_in-r) where
+  abbrev all : List Rec
+  all = records_in c.args.file.now c.args.part
 
-  next : {b : Bool} → row c.args.code c.args.level c.loop-m.m (rec c.record_in-r.result) ≡ b
-      → rows ⟪Start⟫ c.loop-m.m ≡ b && rows ⟪Start⟫ (c.loop-m.m + 1)
+  abbrev rest : ℕ → Bool
+  rest = left c.args.code c.args.level c.args.n all c.args.from
+
+  next : {b : Bool} → row c.args.code c.args.level c.loop-m.m (rec c.record_in-r.result) ≡ b → rest c.loop-m.m ≡ b && rest (c.loop-m.m + 1)
   next e =
       let a = c.args in
       let m = c.loop-m.m in
-      at_row a.code a.level a.n (records ⟪Start⟫) a.from m c.loop-m-test.taken
+      at_row a.code a.level a.n all a.from m c.loop-m-test.true
       (omega (arith, c.if-part-i.false, count_is a.file.now a.part))
       (rec c.record_in-r.result)
       c.record_in-r.ensures
-      ∙ ap (λ b. b && rows ⟪Start⟫ (m + 1)) e
+      ∙ ap (λ b. b && rest (m + 1)) e
 
 pub loop-m-init : goal.loop-m-init
 loop-m-init c =
@@ -60,18 +56,18 @@ overflow_cast-m c = omega (arith, c.loop-m-test.true, c.requires.2)
 
 pub returns-then-not-row_fits : goal.returns-then-not-row_fits
 returns-then-not-row_fits c =
-    sym (c.loop-m.invariant ∙ next (goal.at.returns-then-not-row_fits c).After-record_in-r (sym c.row_fits.ensures ∙ not-true _ c.if-not-row_fits.true))
+    sym (c.loop-m.invariant ∙ next (goal.at.returns-then-not-row_fits c).After-record_in-r (sym c.row_fits.ensures ∙ c.if-not-row_fits.true))
 
 pub overflow_add-m : goal.overflow_add-m
 overflow_add-m c =
-    omega (arith, c.loop-m-test.taken, c.requires.2)
+    omega (arith, c.loop-m-test.true, c.requires.2)
 
 pub loop-m-smaller : goal.loop-m-smaller
-loop-m-smaller c = omega (arith, c.loop-m-test.taken)
+loop-m-smaller c = omega (arith, c.loop-m-test.true)
 
 pub loop-m-preserved : goal.loop-m-preserved
 loop-m-preserved c =
-    c.loop-m.invariant ∙ next (goal.at.loop-m-preserved c).After-record_in-r (sym c.row_fits.ensures ∙ not-false _ c.if-not-row_fits.false)
+    c.loop-m.invariant ∙ next (goal.at.loop-m-preserved c).After-record_in-r (sym c.row_fits.ensures ∙ c.if-not-row_fits.false)
 
 pub returns : goal.returns
 returns c =

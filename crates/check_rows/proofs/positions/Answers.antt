@@ -1,17 +1,9 @@
 -- `check_rows::positions` meets its contract. Invariant: the first i are what the first i rows state, and all forms are small.
-use Prim.Native.Nat.{◌-◌}
-use mathlib.Core.Path.{◌≡◌, refl, ◌∙◌}
-use mathlib.Core.List.{map}
+use mathlib.Core.Path.{refl, ◌∙◌}
 use native.Mathlib.Omega.{arith}
-use lib.ListN.{take, drop}
-use borrow.Author.Rules.{rules}
-use Rattle.forms.specs.Code.{form}
 use Rattle.kernel.specs.File as File
-use Rattle.parts.specs.Parts.{records_in}
-use Rattle.check_ledger.specs.View.{positions, buffers}
 use Rattle.check_ledger.proofs.Entries.{positions_long}
-use Rattle.check_ledger.proofs.Loops.{Written, written_starts, written_all}
-use Rattle.check_rows.specs.Changes.{Stated}
+use Rattle.check_ledger.proofs.Loops.{written_starts, written_all}
 use Rattle.check_rows.proofs.Stating.{row_written, small_form, position_stated}
 use Rattle.check_rows.proofs.positions.Goals as goal
 

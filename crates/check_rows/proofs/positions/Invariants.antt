@@ -1,22 +1,18 @@
 use Prim.Native.Nat.{◌-◌}
-use mathlib.Core.Path.{◌≡◌, refl, ◌∙◌}
+use mathlib.Core.Path.{◌≡◌}
 use mathlib.Core.List.{map}
-use native.Mathlib.Omega.{arith}
 use lib.ListN.{take, drop}
-use borrow.Author.Rules.{rules}
 use Rattle.forms.specs.Code.{form}
 use Rattle.kernel.specs.File as File
 use Rattle.parts.specs.Parts.{records_in}
 use Rattle.check_ledger.specs.View.{positions, buffers}
-use Rattle.check_ledger.proofs.Entries.{positions_long}
-use Rattle.check_ledger.proofs.Loops.{Written, written_starts, written_all}
+use Rattle.check_ledger.proofs.Loops.{Written}
 use Rattle.check_rows.specs.Changes.{Stated}
-use Rattle.check_rows.proofs.Stating.{row_written, small_form, position_stated}
 use Rattle.check_rows.proofs.positions.Given as goal
 
 abbrev pub invariant-loop-i : goal.invariant-loop-i
 invariant-loop-i l =
-    Written form (λ l.i. map File.form (take l.i (drop l.from (records_in l.file l.part)))) l.n l.i (positions l.rows) × (buffers l.rows ≡ buffers l.initial.rows) × Stated l.rows
+    Written form (λ i. map File.form (take i (drop l.from (records_in l.file l.part)))) l.n l.i (positions l.rows) × (buffers l.rows ≡ buffers l.initial.rows) × Stated l.rows
 
 abbrev pub decreases-loop-i : goal.decreases-loop-i
 decreases-loop-i l = l.n - l.i

@@ -1,16 +1,14 @@
 -- `check_rows::positions_left` meets its contract. Invariant: the first i positions are those of the rows changed, and bounds are kept.
-use Prim.Native.Nat.{ℕ, ◌-◌}
-use mathlib.Core.Path.{◌≡◌, refl, ap, ◌∙◌}
+use mathlib.Core.Path.{refl, ap, ◌∙◌}
 use native.Mathlib.Omega.{arith}
-use borrow.Author.Rules.{rules}
 use Rattle.forms.specs.Code.{form}
-use Rattle.check_ledger.specs.View.{Whole, positions, buffers, zero_form, Bounded}
+use Rattle.check_ledger.specs.View.{zero_form}
 use Rattle.check_ledger.proofs.Entries.{positions_long}
 use Rattle.check_ledger.proofs.Bounds.{within_wider, put_bounded}
-use Rattle.check_ledger.proofs.Loops.{Written, written_starts, written_all}
+use Rattle.check_ledger.proofs.Loops.{written_starts, written_all}
 use Rattle.check_rows.specs.Changes.{with_change}
 use Rattle.check_rows.proofs.Stating.{position_small}
-use Rattle.check_rows.proofs.Changes.{first_changed, changed_more}
+use Rattle.check_rows.proofs.Changes.{changed_more}
 use Rattle.check_rows.proofs.positions_left.Goals as goal
 
 pub loop-i-init : goal.loop-i-init

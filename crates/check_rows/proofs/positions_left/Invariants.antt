@@ -1,15 +1,10 @@
 use Prim.Native.Nat.{ℕ, ◌-◌}
-use mathlib.Core.Path.{◌≡◌, refl, ap, ◌∙◌}
-use native.Mathlib.Omega.{arith}
-use borrow.Author.Rules.{rules}
+use mathlib.Core.Path.{◌≡◌}
 use Rattle.forms.specs.Code.{form}
-use Rattle.check_ledger.specs.View.{Whole, positions, buffers, zero_form, Bounded}
-use Rattle.check_ledger.proofs.Entries.{positions_long}
-use Rattle.check_ledger.proofs.Bounds.{within_wider, put_bounded}
-use Rattle.check_ledger.proofs.Loops.{Written, written_starts, written_all}
+use Rattle.check_ledger.specs.View.{Whole, positions, buffers, Bounded}
+use Rattle.check_ledger.proofs.Loops.{Written}
 use Rattle.check_rows.specs.Changes.{with_change}
-use Rattle.check_rows.proofs.Stating.{position_small}
-use Rattle.check_rows.proofs.Changes.{first_changed, changed_more}
+use Rattle.check_rows.proofs.Changes.{first_changed}
 use Rattle.check_rows.proofs.positions_left.Given as goal
 
 abbrev pub invariant-loop-i : goal.invariant-loop-i

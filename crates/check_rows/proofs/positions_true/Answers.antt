@@ -1,16 +1,13 @@
 -- `check_rows::positions_true` meets its contract. Invariant: the test of the whole is the test of the positions from i on.
-use Prim.Native.Nat.{◌-◌}
 use mathlib.Core.Path.{◌≡◌, sym, ap, ◌∙◌}
 use native.Mathlib.Omega.{arith}
 use lib.ListN.{get_or}
-use borrow.Author.Tests.{not-true, not-false}
-use borrow.Author.Rules.{rules}
 use Rattle.forms.specs.Form as F
 use Rattle.forms.specs.Code.{form, loops}
 use Rattle.kernel.specs.Ledger as L
 use Rattle.check_ledger.specs.View.{positions, ledger, zero_form}
 use Rattle.check_ledger.proofs.Entries.{positions_long}
-use Rattle.check_ledger.proofs.Loops.{Tested, test_starts, test_goes_on, test_fails, test_passes}
+use Rattle.check_ledger.proofs.Loops.{test_starts, test_goes_on, test_fails, test_passes}
 use Rattle.check_rows.specs.Changes.{with_change}
 use Rattle.check_rows.proofs.Stating.{position_small}
 use Rattle.check_rows.proofs.Changes.{changed_alike}
@@ -19,7 +16,6 @@ use Rattle.check_rows.proofs.positions_true.Goals as goal
 
 -- the pass in which two positions were compared, and what the test says of them
 module _ (c : After-same) where
-
   compared : c.same.result ≡ F.same (loops c.args.around) (with_change c.args.level c.args.change (form (get_or (positions c.args.rows.now) c.loop-i.i zero_form))) (form (get_or (positions c.args.l.now) c.loop-i.i zero_form))
   compared =
       c.same.ensures
@@ -35,11 +31,11 @@ changed-next-requires c =
 pub returns-then-not-same : goal.returns-then-not-same
 unfolding L.same_positions L.each ledger
 returns-then-not-same c =
-    λ b. sym (test_fails c.loop-i.inv zero_form c.loop-i-test.taken (sym (compared (goal.at.returns-then-not-same c).After-same) ∙ not-true _ c.if-not-same.true)) ∙ changed_alike _ _ _ _
+    λ b. sym (test_fails c.loop-i.invariant zero_form c.loop-i-test.true (sym (compared (goal.at.returns-then-not-same c).After-same) ∙ c.if-not-same.true)) ∙ changed_alike _ _ _ _
 
 pub loop-i-preserved : goal.loop-i-preserved
 loop-i-preserved c =
-    test_goes_on c.loop-i.inv zero_form c.loop-i-test.taken (sym (compared (goal.at.loop-i-preserved c).After-same) ∙ not-false _ c.if-not-same.false)
+    test_goes_on c.loop-i.invariant zero_form c.loop-i-test.true (sym (compared (goal.at.loop-i-preserved c).After-same) ∙ c.if-not-same.false)
 
 pub returns : goal.returns
 unfolding L.same_positions L.each ledger

@@ -1,18 +1,9 @@
 use Prim.Native.Nat.{◌-◌}
-use mathlib.Core.Path.{◌≡◌, sym, ap, ◌∙◌}
-use native.Mathlib.Omega.{arith}
-use lib.ListN.{get_or}
-use borrow.Author.Tests.{not-true, not-false}
-use borrow.Author.Rules.{rules}
 use Rattle.forms.specs.Form as F
 use Rattle.forms.specs.Code.{form, loops}
-use Rattle.kernel.specs.Ledger as L
-use Rattle.check_ledger.specs.View.{positions, ledger, zero_form}
-use Rattle.check_ledger.proofs.Entries.{positions_long}
-use Rattle.check_ledger.proofs.Loops.{Tested, test_starts, test_goes_on, test_fails, test_passes}
+use Rattle.check_ledger.specs.View.{positions}
+use Rattle.check_ledger.proofs.Loops.{Tested}
 use Rattle.check_rows.specs.Changes.{with_change}
-use Rattle.check_rows.proofs.Stating.{position_small}
-use Rattle.check_rows.proofs.Changes.{changed_alike}
 use Rattle.check_rows.proofs.positions_true.Given as goal
 
 abbrev pub invariant-loop-i : goal.invariant-loop-i

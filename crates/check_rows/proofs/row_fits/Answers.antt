@@ -1,5 +1,4 @@
 -- `check_rows::row_fits` meets its contract.
-use borrow.Author.Rules.{rules}
 use mathlib.Core.Path.{ap, ◌∙◌}
 use borrow.Author.Tests.{eq-eqb, ne_eqb}
 use Rattle.forms.specs.Form.{around}

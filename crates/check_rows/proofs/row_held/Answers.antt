@@ -1,6 +1,5 @@
 -- `check_rows::row_held` meets its contract.
 use mathlib.Core.Path.{ap, ◌∙◌}
-use borrow.Author.Rules.{rules}
 use Rattle.numbers.proofs.Signs.{as_returned}
 use Rattle.parts.specs.Records.{rec}
 use Rattle.check_ledger.specs.View.{numbered}
@@ -15,5 +14,5 @@ returns-then-r-eq-MINUS_ONE c =
 pub returns : goal.returns
 returns c =
     let e = c.form_of-index.ensures in
-    let number = c.number_of in
+    let number = c.number_of-number in
     (ap (λ n. numbered n c.form_of-index.result) (as_returned {z = number.result} number.type_inv ∙ number.ensures) ∙ states_something (rec c.args.r) _ e c.if-r-eq-MINUS_ONE.false, e)

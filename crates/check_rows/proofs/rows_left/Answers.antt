@@ -2,7 +2,6 @@
 use mathlib.Core.Path.{ap, ◌∙◌}
 use mathlib.Core.List.{map}
 use lib.ListN.{take}
-use borrow.Author.Rules.{rules}
 use Rattle.forms.specs.Code.{form}
 use Rattle.check_ledger.proofs.Bounds.{bounded_same}
 use Rattle.check_rows.proofs.Changes.{each_right}

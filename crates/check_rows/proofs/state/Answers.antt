@@ -2,7 +2,6 @@
 use mathlib.Core.Path.{ap, ◌∙◌}
 use mathlib.Core.List.{map}
 use lib.ListN.{take}
-use borrow.Author.Rules.{rules}
 use Rattle.forms.specs.Code.{form}
 use Rattle.parts.specs.Parts.{records_in}
 use Rattle.check_ledger.specs.View.{ledger}

@@ -1,4 +1,5 @@
 -- `check_rules::arrays_taken` meets its contract.
+use native.Mathlib.Omega.{arith}
 use Rattle.check_rules.proofs.ByCode.{takes_none, takes_one}
 use Rattle.check_rules.proofs.arrays_taken.Goals as goal
 

@@ -1,7 +1,7 @@
 -- `check_rules::asked` meets its contract: a function for each rule, whose statements name what is there.
+use native.Mathlib.Omega.{arith}
 use Prim.Native.Nat.{ℕ}
 use mathlib.Core.Path.{◌≡◌, sym, ap, subst, ◌∙◌}
-use borrow.Author.Rules.{rules}
 use Rattle.numbers.specs.Result.{Result}
 use Rattle.forms.specs.Code.{form, loops}
 use Rattle.kernel.specs.Derivation.{Rule, rule}
@@ -20,8 +20,8 @@ module _ (s : Start) where
     abbrev Asked : Rule → Result ℕ (Unit {0})
     Asked r = asked (kernel s.args.file.now s.args.c) (loops s.args.around) r (rec s.args.a) (rec s.args.s) (form s.args.position) (held s.args.h)
 
-    by-rule : Asked r ≡ Asked (rule s.args.code)
-    by-rule = sym (ap Asked e)
+    by_rule : Asked r ≡ Asked (rule s.args.code)
+    by_rule = sym (ap Asked e)
 
     named : Named s.args.c r (rec s.args.a) (rec s.args.s)
     named = subst (λ r. Named s.args.c r (rec s.args.a) (rec s.args.s)) e s.requires.1
@@ -37,24 +37,24 @@ fill_asked-requires c =
 
 pub item_asked-requires : goal.item_asked-requires
 item_asked-requires c =
-    (arrays_ready c.args.file.now c.args.c c.requires.0, item_named c.args.c (rec c.args.a) (rec c.args.s) _ (left c) c.requires.1, c.requires.2, c.requires.3)
+    (arrays_ready c.args.file.now c.args.c c.requires.0, item_named c.args.c (rec c.args.a) (rec c.args.s) _ (left (goal.at.item_asked-requires c).In_default) c.requires.1, c.requires.2, c.requires.3)
 
 pub returns-in-1 : goal.returns-in-1
 unfolding asked answered
-returns-in-1 c = by-rule (goal.at.returns-in-1 c).Start _ (same_at c.in-1.is)
+returns-in-1 c = by_rule (goal.at.returns-in-1 c).Start _ (same_at c.in-1.is)
 
 pub returns-in-3 : goal.returns-in-3
 unfolding asked
 returns-in-3 c =
-    c.fill_asked.ensures _ (arrays_are c.args.file.now c.args.c) ∙ by-rule (goal.at.returns-in-3 c).Start _ (fill_at c.in-3.is)
+    c.fill_asked.ensures _ (arrays_are c.args.file.now c.args.c) ∙ by_rule (goal.at.returns-in-3 c).Start _ (fill_at c.in-3.is)
 
 pub returns-in-4 : goal.returns-in-4
 unfolding asked
-returns-in-4 c = c.use_asked.ensures ∙ by-rule (goal.at.returns-in-4 c).Start _ (use_at c.in-4.is)
+returns-in-4 c = c.use_asked.ensures ∙ by_rule (goal.at.returns-in-4 c).Start _ (use_at c.in-4.is)
 
 pub returns-in-5 : goal.returns-in-5
 unfolding asked
-returns-in-5 c = c.move_asked.ensures ∙ by-rule (goal.at.returns-in-5 c).Start _ (move_at c.in-5.is)
+returns-in-5 c = c.move_asked.ensures ∙ by_rule (goal.at.returns-in-5 c).Start _ (move_at c.in-5.is)
 
 pub returns-in_default : goal.returns-in_default
 returns-in_default c =

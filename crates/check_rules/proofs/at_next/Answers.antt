@@ -1,7 +1,6 @@
 -- `check_rules::at_next` meets its contract: first index and step are the array's, and small.
 use Prim.Native.Nat.{◌^◌}
 use mathlib.Core.Path.{sym, subst, ◌∙◌}
-use borrow.Author.Rules.{rules}
 use Rattle.numbers.specs.Bounds.{Small}
 use Rattle.numbers.proofs.Signs.{as_returned, small_back, wider}
 use Rattle.forms.specs.Form as F

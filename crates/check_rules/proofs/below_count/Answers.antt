@@ -1,6 +1,5 @@
 -- `check_rules::below_count` meets its contract.
 use mathlib.Core.Path.{ap, ◌∙◌}
-use borrow.Author.Rules.{rules}
 use Rattle.forms.specs.Form as F
 use Rattle.forms.specs.Code.{form, loops}
 use Rattle.check_rules.proofs.below_count.Goals as goal

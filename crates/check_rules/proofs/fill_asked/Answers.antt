@@ -1,7 +1,5 @@
 -- `check_rules::fill_asked` meets its contract: one test.
 use mathlib.Core.Path.{sym, ap, ◌∙◌}
-use borrow.Author.Rules.{rules}
-use borrow.Author.Tests.{not-true, not-false}
 use Rattle.forms.specs.Form as F
 use Rattle.forms.specs.Code.{form, loops}
 use Rattle.kernel.specs.File.{count_of}
@@ -13,9 +11,9 @@ use Rattle.check_rules.proofs.fill_asked.Goals as goal
 pub returns-then-not-below_count : goal.returns-then-not-below_count
 unfolding room_left answered
 returns-then-not-below_count c K k =
-    needs_not 11 _ (ap (λ r. F.below (loops c.args.around) (count_of r) (form c.args.position)) (sym (array_as c.args.file.now c.args.n c.args.s.q c.requires.1 K k)) ∙ sym c.below_count.ensures ∙ not-true _ c.if-not-below_count.true)
+    needs_not 11 _ (ap (λ r. F.below (loops c.args.around) (count_of r) (form c.args.position)) (sym (array_as c.args.file.now c.args.n c.args.s.q c.requires.1 K k)) ∙ sym c.below_count.ensures ∙ c.if-not-below_count.true)
 
 pub returns : goal.returns
 unfolding room_left answered
 returns c K k =
-    needs_nothing 11 _ (ap (λ r. F.below (loops c.args.around) (count_of r) (form c.args.position)) (sym (array_as c.args.file.now c.args.n c.args.s.q c.requires.1 K k)) ∙ sym c.below_count.ensures ∙ not-false _ c.if-not-below_count.false)
+    needs_nothing 11 _ (ap (λ r. F.below (loops c.args.around) (count_of r) (form c.args.position)) (sym (array_as c.args.file.now c.args.n c.args.s.q c.requires.1 K k)) ∙ sym c.below_count.ensures ∙ c.if-not-below_count.false)

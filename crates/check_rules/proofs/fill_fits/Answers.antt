@@ -1,5 +1,4 @@
 -- `check_rules::fill_fits` meets its contract.
-use borrow.Author.Rules.{rules}
 use borrow.Author.Tests.{eq-eqb, ne_eqb}
 use Rattle.check_rules.proofs.fill_fits.Goals as goal
 

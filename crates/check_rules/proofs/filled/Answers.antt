@@ -2,7 +2,6 @@
 use Prim.Native.Nat.{◌-◌, ◌^◌}
 use mathlib.Core.Path.{sym, ap, subst, ◌∙◌}
 use native.Mathlib.Omega.{arith}
-use borrow.Author.Rules.{rules}
 use Rattle.numbers.specs.Bounds.{Small}
 use Rattle.numbers.proofs.Signs.{as_returned, small_back}
 use Rattle.kernel.specs.File.{first_of, step_of}

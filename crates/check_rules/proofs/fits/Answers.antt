@@ -1,5 +1,5 @@
 -- `check_rules::fits` meets its contract: a function for each rule.
-use borrow.Author.Rules.{rules}
+use native.Mathlib.Omega.{arith}
 use mathlib.Core.Path.{refl}
 use Rattle.kernel.specs.Derivation as Derivation
 use Rattle.kernel.specs.Check as Check

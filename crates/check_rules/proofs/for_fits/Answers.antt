@@ -2,7 +2,6 @@
 use Prim.Native.Nat.{◌+◌}
 use mathlib.Core.Path.{sym, ap, subst, ◌∙◌}
 use native.Mathlib.Omega.{arith}
-use borrow.Author.Rules.{rules}
 use Rattle.kernel.specs.Check as Check
 use Rattle.parts.specs.Parts.{kernel, records_in, derivation_part, Lies}
 use Rattle.parts.proofs.Parts.{derivation_lies, derivation_is, arrays_count, buffers_are, few, fills}

@@ -1,7 +1,6 @@
 -- `check_rules::identical` meets its contract: the eight tests are the code's, those of p, q and k, and those of the terms.
 use mathlib.Core.Path.{◌≡◌, sym, ap}
 use mathlib.Core.Bool.{◌&&◌}
-use borrow.Author.Rules.{rules}
 use borrow.Author.Tests.{eq-eqb, ne_eqb}
 use lib.Dec.{eqb}
 use Rattle.numbers.specs.Lists.{alike}

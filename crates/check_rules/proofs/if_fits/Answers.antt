@@ -1,5 +1,4 @@
 -- `check_rules::if_fits` meets its contract.
-use borrow.Author.Rules.{rules}
 use Rattle.kernel.specs.Check as Check
 use Rattle.check_rules.proofs.Fitting.{refused, passed}
 use Rattle.check_rules.proofs.if_fits.Goals as goal

@@ -1,5 +1,4 @@
 -- `check_rules::item_fits` meets its contract.
-use borrow.Author.Rules.{rules}
 use Rattle.check_rules.proofs.Fitting.{refused, passed}
 use Rattle.check_rules.proofs.item_fits.Goals as goal
 

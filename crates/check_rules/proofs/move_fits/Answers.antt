@@ -1,5 +1,4 @@
 -- `check_rules::move_fits` meets its contract.
-use borrow.Author.Rules.{rules}
 use borrow.Author.Tests.{eq-eqb, ne_eqb, le-leb, lt-leb}
 use Rattle.check_rules.proofs.move_fits.Goals as goal
 

@@ -1,5 +1,4 @@
 -- `check_rules::same_fits` meets its contract.
-use borrow.Author.Rules.{rules}
 use Rattle.check_rules.proofs.Fitting.{refused, passed}
 use Rattle.check_rules.proofs.same_fits.Goals as goal
 

@@ -1,5 +1,4 @@
 -- `check_rules::same_pqk` meets its contract.
-use borrow.Author.Rules.{rules}
 use Rattle.kernel.specs.Check as Check
 use Rattle.check_rules.proofs.Fitting.{refused, passed}
 use Rattle.check_rules.proofs.same_pqk.Goals as goal

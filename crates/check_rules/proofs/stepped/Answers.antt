@@ -2,7 +2,6 @@
 use Prim.Native.Nat.{◌-◌, ◌<◌}
 use mathlib.Core.Path.{◌≡◌, sym, ap, subst, ◌∙◌}
 use native.Mathlib.Omega.{arith}
-use borrow.Author.Rules.{rules}
 use Rattle.kernel.specs.Ledger as L
 use Rattle.kernel.specs.Derivation.{buffer, Rule, move_rule, rule}
 use Rattle.parts.specs.Records.{rec}
@@ -24,8 +23,8 @@ module _ (s : Start) where
     abbrev Stepped : Rule → L.Ledger
     Stepped r = stepped (K s.args.file.now s.args.c) r (rec s.args.a) (rec s.args.s) seen
 
-    by-rule : Stepped r ≡ Stepped (rule s.args.code)
-    by-rule = sym (ap Stepped e)
+    by_rule : Stepped r ≡ Stepped (rule s.args.code)
+    by_rule = sym (ap Stepped e)
 
     named : Named s.args.c r (rec s.args.a) (rec s.args.s)
     named = subst (λ r. Named s.args.c r (rec s.args.a) (rec s.args.s)) e s.requires.1
@@ -37,7 +36,7 @@ item_there c =
 
 -- a move names buffers that are there
 moves : (c : In-5) → Named c.args.c move_rule (rec c.args.a) (rec c.args.s)
-moves c = named ⟪Start⟫ move_rule (move_at c.in-5.is)
+moves c = subst (λ r. Named c.args.c r (rec c.args.a) (rec c.args.s)) (move_at c.in-5.is) c.requires.1
 
 pub passed-requires : goal.passed-requires
 passed-requires c =
@@ -69,7 +68,7 @@ returns-in-2 c =
 pub returns-in-3 : goal.returns-in-3
 unfolding stepped
 returns-in-3 c =
-    record { as_said = c.filled.ensures.as_said ∙ by-rule (goal.at.returns-in-3 c).Start _ (fill_at c.in-3.is); bounded = c.filled.ensures.bounded }
+    record { as_said = c.filled.ensures.as_said ∙ by_rule (goal.at.returns-in-3 c).Start _ (fill_at c.in-3.is); bounded = c.filled.ensures.bounded }
 
 pub returns-in-5 : goal.returns-in-5
 unfolding stepped buffer
@@ -79,7 +78,7 @@ returns-in-5 c =
       as_said =
           c.moved.ensures.0 c.args.c.a c.args.c.b (omega (arith, h.2, h.3))
           ∙ ap (λ d. L.move_step (c.args.s.p - d) (c.args.s.q - d) (seen (goal.at.returns-in-5 c).Start)) (sym (registers_are c.args.file.now c.args.c))
-          ∙ by-rule (goal.at.returns-in-5 c).Start _ (move_at c.in-5.is);
+          ∙ by_rule (goal.at.returns-in-5 c).Start _ (move_at c.in-5.is);
       bounded = λ n h. bounded_wider (c.moved.ensures.1 n h) (omega arith);
     }
 

@@ -1,4 +1,5 @@
 -- `check_rules::steps` meets its contract.
+use native.Mathlib.Omega.{arith}
 use Rattle.check_rules.proofs.ByCode.{steps_not, steps_on}
 use Rattle.check_rules.proofs.steps.Goals as goal
 

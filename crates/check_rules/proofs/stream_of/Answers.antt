@@ -1,6 +1,6 @@
 -- `check_rules::stream_of` meets its contract.
+use native.Mathlib.Omega.{arith}
 use mathlib.Core.Path.{sym, ap}
-use borrow.Author.Rules.{rules}
 use Rattle.parts.specs.Records.{rec}
 use Rattle.check_rules.specs.View.{stream_of}
 use Rattle.check_rules.proofs.ByCode.{fill_at, item_at, stream_item, stream_none}

@@ -1,7 +1,5 @@
 -- `check_rules::use_asked` meets its contract: the buffer against a row that states the load's array and index.
 use mathlib.Core.Path.{◌≡◌, sym, ap, ◌∙◌}
-use borrow.Author.Rules.{rules}
-use borrow.Author.Tests.{not-true, not-false}
 use Rattle.numbers.proofs.Signs.{as_returned}
 use Rattle.forms.specs.Code.{loops}
 use Rattle.kernel.specs.File as File
@@ -15,10 +13,9 @@ use Rattle.check_rules.proofs.use_asked.Goals as goal
 
 -- the test is whether the buffer holds just that
 module _ (c : After-row_true) where
-
   held_there : L.holds_just (loops c.args.around) (L.held c.args.a.q (File.form (rec c.args.a))) (held c.args.h) ≡ c.row_true.result
   held_there =
-      let number = c.number_of in
+      let number = c.number_of-number in
       let is = as_returned {z = number.result} number.type_inv ∙ number.ensures in
       sym (c.row_true.ensures
       ∙ ap (λ n. L.row_true (loops c.args.around) (numbered n c.form_of-index.result) (held c.args.h)) is
@@ -27,8 +24,8 @@ module _ (c : After-row_true) where
 
 pub returns-then-not-row_true : goal.returns-then-not-row_true
 unfolding answered
-returns-then-not-row_true c = needs_not 13 _ (held_there (goal.at.returns-then-not-row_true c).After-row_true ∙ not-true _ c.if-not-row_true.true)
+returns-then-not-row_true c = needs_not 13 _ (held_there (goal.at.returns-then-not-row_true c).After-row_true ∙ c.if-not-row_true.true)
 
 pub returns : goal.returns
 unfolding answered
-returns c = needs_nothing 13 _ (held_there (goal.at.returns c).After-row_true ∙ not-false _ c.if-not-row_true.false)
+returns c = needs_nothing 13 _ (held_there (goal.at.returns c).After-row_true ∙ c.if-not-row_true.false)

@@ -1,5 +1,4 @@
 -- `check_rules::use_fits` meets its contract.
-use borrow.Author.Rules.{rules}
 use borrow.Author.Tests.{eq-eqb, ne_eqb}
 use Rattle.kernel.specs.Check as Check
 use Rattle.check_rules.proofs.Fitting.{refused, passed}

@@ -2,7 +2,6 @@
 use Prim.Native.Nat.{◌<◌, ◌^◌}
 use mathlib.Core.Path.{sym, ap, subst, ◌∙◌}
 use lib.ListN.{get_or}
-use borrow.Author.Rules.{rules}
 use Rattle.forms.specs.Code.{form, loops, Within}
 use Rattle.kernel.specs.Ledger.{position, holding}
 use Rattle.kernel.specs.Derivation.{rule}
@@ -39,10 +38,10 @@ returns c =
     let p = rec c.args.a in
     let q = rec c.args.s in
     let kernel = K c.args.file.now k in
-    let position-is = c.position-position.ensures ∙ ap (λ q. get_or (positions l) q zero_form) c.stream_of-q.ensures in
-    let buffer-is = c.buffer-h.ensures ∙ ap (λ c. get_or (buffers l) c nothing) c.buffer_of-b.ensures in
+    let position_is = c.position-position.ensures ∙ ap (λ q. get_or (positions l) q zero_form) c.stream_of-q.ensures in
+    let buffer_is = c.buffer-h.ensures ∙ ap (λ c. get_or (buffers l) c nothing) c.buffer_of-b.ensures in
     λ os at o.
     c.asked.ensures
-    ∙ (λ i. asked kernel (loops c.args.around) r p q (form (position-is i)) (held (buffer-is i)))
+    ∙ (λ i. asked kernel (loops c.args.around) r p q (form (position_is i)) (held (buffer_is i)))
     ∙ entries kernel (loops c.args.around) k p q l r c.requires.1
     ∙ (λ i. asked kernel (sym o i) r p q (position (stream_of r p q) (ledger k.a k.b l)) (holding (buffer_of (sym (registers_are c.args.file.now k) i) r q) (ledger k.a k.b l)))

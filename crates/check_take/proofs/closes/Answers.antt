@@ -1,6 +1,5 @@
 -- `check_take::closes` meets its contract: the code of the rule, then whether it fits.
 use mathlib.Core.Path.{sym, ◌∙◌}
-use borrow.Author.Rules.{rules}
 use borrow.Author.Tests.{eq-eqb, ne_eqb}
 use Rattle.parts.proofs.Parts.{few}
 use Rattle.check_take.specs.View.{Next}
@@ -18,4 +17,4 @@ fits-requires c =
 pub returns : goal.returns
 returns c d =
     let n : Next c.args.file.now c.args.c c.args.at _ _ = record { array_is = c.array_next-a.ensures; stream_is = c.stream_next-s.ensures } in
-    and_holds (eq-eqb _ _ (sym c.code_next.ensures ∙ c.if-code_next-code.false)) (fits_next c.args.code n c.fits2.ensures d)
+    and_holds (eq-eqb _ _ (sym c.code_next.ensures ∙ c.if-code_next-code.false)) (fits_next c.args.code n c.fits.ensures d)

@@ -3,7 +3,6 @@ use mathlib.Core.Path.{◌≡◌, refl}
 use mathlib.Core.Bool.{true}
 use mathlib.Core.List.{[]}
 use native.Mathlib.Omega.{arith}
-use borrow.Author.Rules.{rules}
 use Rattle.kernel.specs.Derivation.{Place}
 use Rattle.parts.proofs.Parts.{few}
 use Rattle.check_rules.proofs.Fitting.{refused, passed}
@@ -17,7 +16,6 @@ use Rattle.check_take.proofs.enter_if.Goals as goal
 
 -- the next statements have been read
 module _ (c : After-stream_next-s) where
-
   next : Next c.args.file.now c.args.c c.args.at c.array_next-a.result c.stream_next-s.result
   next = record { array_is = c.array_next-a.ensures; stream_is = c.stream_next-s.ensures }
 
@@ -31,7 +29,7 @@ returns-then-not-fits c l there =
     let k = c.args.c in
     let at = c.args.at in
     record {
-      as_defined = λ os. stopped file k os at l _ l refl c.stays.ensures (unfit file k os at l 8 c.requires.1 (refused (fits_next 8 (next (goal.at.returns-then-not-fits c).After-stream_next-s) c.fits2.ensures _) c.if-not-fits.true));
+      as_defined = λ os. stopped file k os at l _ l refl c.stays.ensures (unfit file k os at l 8 c.requires.1 (refused (fits_next 8 (next (goal.at.returns-then-not-fits c).After-stream_next-s) c.fits.ensures _) c.if-not-fits.true));
       onward = refuses refl c.stays.ensures;
       reads_on = refuses refl c.stays.ensures;
     }
@@ -44,7 +42,7 @@ returns c l there =
     let file = c.args.file.now in
     let k = c.args.c in
     let at = c.args.at in
-    let f : (d : Place) → fits_there file k at 8 d ≡ true = λ d. passed (fits_next 8 (next (goal.at.returns c).After-stream_next-s) c.fits2.ensures d) c.if-not-fits.false in
+    let f : (d : Place) → fits_there file k at 8 d ≡ true = λ d. passed (fits_next 8 (next (goal.at.returns c).After-stream_next-s) c.fits.ensures d) c.if-not-fits.false in
     record {
       as_defined = λ os. went_on file k os at l _ l 1 c.took.ensures refl (fit file k os at l 8 c.requires.1 (f _) (if_opens file k os at l));
       onward = λ z. onward_one there there.stood.bounded c.took.ensures;

@@ -4,8 +4,6 @@ use mathlib.Core.Path.{sym, ◌∙◌}
 use mathlib.Core.List.{List}
 use native.Mathlib.Omega.{arith}
 use lib.IntN.{ℤ}
-use borrow.Author.Rules.{rules}
-use borrow.Author.Tests.{not-true}
 use Rattle.kernel.specs.Derivation.{Rule, rule}
 use Rattle.parts.specs.declared.Counts.{Counts}
 use Rattle.check_rules.proofs.Effects.{unchanged}
@@ -18,7 +16,6 @@ use Rattle.check_take.proofs.plain.Goals as goal
 
 -- the next statements have been read
 module _ (c : After-stream_next-s) where
-
   abbrev file : List ℕ
   file = c.args.file.now
 
@@ -48,7 +45,7 @@ took-requires c =
 
 pub returns-then-not-steps : goal.returns-then-not-steps
 returns-then-not-steps c =
-    let same = unchanged (file (goal.at.returns-then-not-steps c).After-stream_next-s) (counts (goal.at.returns-then-not-steps c).After-stream_next-s) (line (goal.at.returns-then-not-steps c).After-stream_next-s) _ _ (l (goal.at.returns-then-not-steps c).After-stream_next-s) (sym c.steps.ensures ∙ not-true _ c.if-not-steps.true) in
+    let same = unchanged (file (goal.at.returns-then-not-steps c).After-stream_next-s) (counts (goal.at.returns-then-not-steps c).After-stream_next-s) (line (goal.at.returns-then-not-steps c).After-stream_next-s) _ _ (l (goal.at.returns-then-not-steps c).After-stream_next-s) (sym c.steps.ensures ∙ c.if-not-steps.true) in
     plain_taken c.refuses-number.ensures c.requires.0 c.requires.2 (next (goal.at.returns-then-not-steps c).After-stream_next-s) c.if-number-ne0.false same c.arrays_taken.ensures c.took.ensures
 
 pub step-requires : goal.step-requires

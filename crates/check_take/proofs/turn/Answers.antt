@@ -2,7 +2,6 @@
 use mathlib.Core.Path.{refl}
 use mathlib.Core.List.{[], ◌∷◌}
 use native.Mathlib.Omega.{arith}
-use borrow.Author.Rules.{rules}
 use Rattle.kernel.specs.Derivation.{in_if}
 use Rattle.check_ledger.specs.View.{ledger}
 use Rattle.check_take.proofs.Taking.{closing, refuses, stopped, went_on, closed_fits, closes, not_else, if_stops, if_turns}

@@ -1,34 +1,25 @@
 -- `check_walk::check_plain` meets its contract. Invariant: the walk has come here, and at least past the first rule unless the rule here is plain.
-use Prim.Native.Nat.{ℕ, ◌-◌, ◌<◌}
+use Prim.Native.Nat.{◌<◌}
 use mathlib.Core.Path.{◌≡◌, refl, sym, ap, subst, ◌∙◌}
 use mathlib.Core.Logic.{◌⊎◌, inl, inr}
 use mathlib.Core.List.{List}
 use native.Mathlib.Omega.{arith}
-use borrow.Author.Rules.{rules}
 use Rattle.forms.specs.Code.{loops}
 use Rattle.kernel.specs.Derivation as S
-use Rattle.parts.specs.declared.Counts.{Counts}
-use Rattle.check_take.specs.View.{Taken, standing, with_ledger, rule_code, Plain, AtRule}
-use Rattle.check_walk.specs.View.{Goes, Further, RuleWalked}
+use Rattle.check_take.specs.View.{Taken, standing, with_ledger, Plain, AtRule}
+use Rattle.check_walk.specs.View.{Goes, RuleWalked}
 use Rattle.check_walk.proofs.Walks.{goes_none, goes_then}
 use Rattle.check_walk.proofs.Stretches.{between_blocks, not_plain, further_none, further_then, plain_walked}
 use Rattle.check_walk.proofs.check_plain.Goals.{After-between, After-plain-r, At-loop-at}
 use Rattle.check_walk.proofs.check_plain.Goals as goal
 
 -- past the first rule, where the rule here is not plain
-past-it : {A B : Type 0} → A ⊎ B → (B → ⊥) → A
-past-it (inl a) n = a
-past-it (inr b) n = absurd (n b)
+past_it : {A B : Type 0} → A ⊎ B → (B → ⊥) → A
+past_it (inl a) n = a
+past_it (inr b) n = absurd (n b)
 
 -- at a turn
 module _ (c : At-loop-at) where
-
-  abbrev file : List ℕ
-  file = c.args.file.now
-
-  abbrev counts : Counts
-  counts = c.args.c
-
   abbrev from : Taken
   from = standing c.args.from c.args.l.now
 
@@ -36,7 +27,7 @@ module _ (c : At-loop-at) where
   here = standing c.loop-at.at c.loop-at.l
 
   abbrev Walked : Taken → Type 0
-  Walked r = RuleWalked file counts (loops c.args.ls) from r
+  Walked r = RuleWalked c.args.file.now c.args.c (loops c.args.ls) from r
 
   -- it stops here
   walked_here : c.args.from.rule < c.loop-at.at.rule → (r : Taken) → r ≡ here → Walked r
@@ -44,21 +35,21 @@ module _ (c : At-loop-at) where
 
 -- at a rule, whose code has been read
 module _ (c : After-between) where
-
-  there : AtRule (file ⟪At-loop-at⟫) (counts ⟪At-loop-at⟫) c.loop-at.at c.loop-at.l
-  there = record { reads = c.requires.0; stood = c.loop-at.inv.0.stood; there = c.loop-at-test.true }
+  there : AtRule c.args.file.now c.args.c c.loop-at.at c.loop-at.l
+  there = record { reads = c.requires.0; stood = c.loop-at.invariant.0.stood; there = c.loop-at-test.true }
 
 -- it is plain, and has been taken
 module _ (c : After-plain-r) where
-
   abbrev after : Taken
   after = with_ledger c.plain-r.result c.plain-r.new.l
 
-  walked : RuleWalked (file (c c)) (counts (c c)) (loops (c (c c)).args.ls) (here (c c)) after
-  walked = plain_walked (there ⟪After-between⟫) (c (c c)).args.ls c.plain-r.ensures
+  walked : RuleWalked c.args.file.now c.args.c (loops c.args.ls) (standing c.loop-at.at c.loop-at.l) after
+  walked =
+      let there : AtRule c.args.file.now c.args.c c.loop-at.at c.loop-at.l = record { reads = c.requires.0; stood = c.loop-at.invariant.0.stood; there = c.loop-at-test.true } in
+      plain_walked there c.args.ls c.plain-r.ensures
 
-  goes : (os : List S.Opened) → S.loops os ≡ loops (c (c c)).args.ls → Goes (file (c c)) (counts (c c)) os (from (c c)) os after
-  goes os k = goes_then (file (c c)) (counts (c c)) os os os (from (c c)) (here (c c)) after ((c c).loop.inv.1 os k) refl (walked.0 os k)
+  goes : (os : List S.Opened) → S.loops os ≡ loops c.args.ls → Goes c.args.file.now c.args.c os (standing c.args.from c.args.l.now) os after
+  goes os k = goes_then c.args.file.now c.args.c os os os (standing c.args.from c.args.l.now) (standing c.loop-at.at c.loop-at.l) after (c.loop-at.invariant.1 os k) refl (walked.0 os k)
 
 pub loop-at-init : goal.loop-at-init
 loop-at-init c =
@@ -73,7 +64,7 @@ pub returns-then-between : goal.returns-then-between
 returns-then-between c =
     let n = c.code_next-code in
     let between = sym c.between.ensures ∙ c.if-between.true in
-    walked_here (goal.at.returns-then-between c).At-loop-at (past-it c.loop-at.inv.2 (λ p. not_plain n.result between (subst Plain (sym n.ensures) p))) _ (ap (λ r. with_ledger r c.loop-at.l) c.stays.ensures)
+    walked_here (goal.at.returns-then-between c).At-loop-at (past_it c.loop-at.invariant.2 (λ p. not_plain n.result between (subst Plain (sym n.ensures) p))) _ (ap (λ r. with_ledger r c.loop-at.l) c.stays.ensures)
 
 pub plain-r-requires : goal.plain-r-requires
 plain-r-requires c =
@@ -90,10 +81,11 @@ loop-at-smaller c =
 pub loop-at-preserved : goal.loop-at-preserved
 loop-at-preserved c =
     let z = c.if-r-ne0.false in
+    let r = after (goal.at.loop-at-preserved c).After-plain-r in
     let f = (walked (goal.at.loop-at-preserved c).After-plain-r).1 z in (
-      further_then c.loop-at.inv.0 f.0,
-      (λ os k. subst (λ n. Goes (file (goal.at.loop-at-preserved c).At-loop-at) (counts (goal.at.loop-at-preserved c).At-loop-at) os (from (goal.at.loop-at-preserved c).At-loop-at) os (record { number = n; at = (after (goal.at.loop-at-preserved c).After-plain-r).at; ledger = (after (goal.at.loop-at-preserved c).After-plain-r).ledger })) z (goes (goal.at.loop-at-preserved c).After-plain-r os k)),
-      inl (omega (arith, c.loop-at.inv.0.further_on, f.1)),
+      further_then c.loop-at.invariant.0 f.0,
+      (λ os k. subst (λ n. Goes c.args.file.now c.args.c os (standing c.args.from c.args.l.now) os (record { number = n; at = r.at; ledger = r.ledger })) z (goes (goal.at.loop-at-preserved c).After-plain-r os k)),
+      inl (omega (arith, c.loop-at.invariant.0.further_on, f.1)),
     )
 
 pub returns : goal.returns

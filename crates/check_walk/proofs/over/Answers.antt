@@ -1,5 +1,4 @@
 -- `check_walk::over` meets its contract: 17 and 18 as the definition finds them where the derivation is over.
-use borrow.Author.Rules.{rules}
 use Rattle.check_take.specs.View.{standing}
 use Rattle.check_walk.proofs.Walks.{stands, over_array, over_stream, over_block, rests_over}
 use Rattle.check_walk.proofs.over.Goals as goal

@@ -24,10 +24,10 @@ passed-requires c =
 pub returns : goal.returns
 unfolding L.fill_step
 returns c =
-    let l = c.args.t1.entries in
+    let l = c.args.self.entries in
     let q = c.args.q in
     let along = c.along-index in
-    let number = c.number_of in
+    let number = c.number_of-number in
     let H = c.put_buffer.ensures in (
       λ K a d _ h first step.
           let next =

@@ -1,7 +1,6 @@
 -- `check_ledger::Ledger::passed` meets its contract.
 use Prim.Native.Nat.{◌^◌}
 use mathlib.Core.Path.{sym, ap, subst, ◌∙◌}
-use borrow.Author.Rules.{rules}
 use Rattle.forms.specs.Form as F
 use Rattle.forms.specs.Code.{form, Within}
 use Rattle.check_ledger.proofs.Bounds.{room, passed_bounded}
@@ -17,4 +16,4 @@ pub returns : goal.returns
 returns c =
     let s = c.args in
     let e = c.plus_one.ensures ∙ ap (λ f. F.plus_one (form f)) c.position-f.ensures in
-    (λ a d h. passed_right a d s.t1.entries s.q c.put_position.ensures e h, λ n h. passed_bounded s.q h c.put_position.ensures e)
+    (λ a d h. passed_right a d s.self.entries s.q c.put_position.ensures e h, λ n h. passed_bounded s.q h c.put_position.ensures e)
