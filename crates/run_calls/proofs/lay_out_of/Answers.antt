@@ -1,11 +1,6 @@
 -- `run_calls::lay_out_of` meets its contract: a wrong length, or laying out.
-use mathlib.Core.Path.{◌≡◌, ◌∙◌}
-use mathlib.Core.Bool.{Bool, ◌&&◌}
-use lib.Dec.{eqb}
-use lib.ListN.{length}
-use Prim.Native.Nat.{◌*◌}
-use borrow.Author.Rules.{rules}
-use Rattle.kernel.specs.File.{Kernel, input}
+use mathlib.Core.Path.{◌∙◌}
+use Rattle.kernel.specs.File.{input}
 use Rattle.kernel.specs.Memory as Memory
 use Rattle.parts.specs.declared.Measure.TheVariants.{Cells, Items}
 use Rattle.parts.specs.Parts.{kernel}

@@ -1,6 +1,5 @@
 -- `run_calls::put_back` meets its contract: reading first.
 use mathlib.Core.Path.{sym, refl}
-use borrow.Author.Rules.{rules}
 use Rattle.kernel.specs.File.{output, length_of, count_of}
 use Rattle.kernel.specs.Reading.{fault}
 use Rattle.kernel.specs.Memory as Memory

@@ -1,7 +1,6 @@
 -- `run_calls::right_lengths` meets its contract.
 use mathlib.Core.Path.{sym, ap, ◌∙◌}
 use mathlib.Core.Bool.{◌&&◌}
-use borrow.Author.Rules.{rules}
 use Rattle.run_calls.specs.View.{right_length}
 use Rattle.run_calls.proofs.right_lengths.Goals as goal
 

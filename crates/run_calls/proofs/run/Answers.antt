@@ -1,11 +1,5 @@
 -- `run_calls::run` meets its contract: a wrong length, or the run.
-use mathlib.Core.Path.{◌≡◌}
-use mathlib.Core.Bool.{Bool, ◌&&◌}
-use lib.Dec.{eqb}
-use lib.ListN.{length}
-use Prim.Native.Nat.{◌*◌}
-use borrow.Author.Rules.{rules}
-use Rattle.kernel.specs.File.{Kernel, input, output}
+use Rattle.kernel.specs.File.{input, output}
 use Rattle.kernel.specs.Memory as Memory
 use Rattle.parts.specs.Parts.{records_in, kernel}
 use Rattle.parts.specs.Arrays.{measure}

@@ -3,11 +3,10 @@ use Prim.Native.Nat.{ℕ, ◌≤◌}
 use mathlib.Core.Path.{◌≡◌, refl, sym, ap, subst, ◌∙◌}
 use mathlib.Core.List.{List, []}
 use native.Mathlib.Omega.{arith}
-use lib.ListN.{length, replicate}
-use borrow.Author.Rules.{rules}
+use lib.ListN.{replicate}
 use Rattle.numbers.specs.Result.{ok}
 use Rattle.numbers.specs.Words.{words, bytes}
-use Rattle.kernel.specs.File.{Rec, Kernel, input, output}
+use Rattle.kernel.specs.File.{input, output}
 use Rattle.kernel.specs.Reading.{open_loops}
 use Rattle.kernel.specs.Trees.{tree}
 use Rattle.kernel.specs.Machine.{State, run}
@@ -53,7 +52,6 @@ run_block-s-requires c =
 
 -- where the program has run
 module _ (c : After-run_block-s) where
-
   abbrev memory : List ℕ
   memory = words c.args.input.now
 
@@ -77,9 +75,6 @@ module _ (c : After-run_block-s) where
   unfolding program_ran
   memory_after = sym c.run_block-s.ensures.1 ∙ ap bytes (memory_is (kernel c.args.file.now c.args.c) c.run_block-s.result.reason c.run_block-s.result.at after ∙ ap (λ r. (Memory.ran (kernel c.args.file.now c.args.c) r).memory) runs)
 
-  long : length c.run_block-s.new.out ≡ length c.args.output.now
-  long = c.run_block-s.auto.out ∙ c.clear.auto.area
-
 pub moved-read-requires : goal.moved-read-requires
 moved-read-requires c = arrays_ready c.args.file.now c.args.c c.requires.0.read
 
@@ -94,16 +89,10 @@ pub overflow_cast-written : goal.overflow_cast-written
 overflow_cast-written c =
     omega (arith, c.moved-written.ensures (after (goal.at.overflow_cast-written c).After-run_block-s) refl, few (goal.at.overflow_cast-written c).After-run_block-s output, outputs_few c.args.file.now c.args.c c.requires.0.read c.args.m)
 
-pub shape_of-output-then-s-eq0 : goal.shape_of-output-then-s-eq0
-shape_of-output-then-s-eq0 c = long (goal.at.shape_of-output-then-s-eq0 c).After-run_block-s
-
 pub returns-then-s-eq0 : goal.returns-then-s-eq0
 unfolding program_ran kernel
 returns-then-s-eq0 c =
     (ended_is (kernel c.args.file.now c.args.c) _ _ _ _ (after (goal.at.returns-then-s-eq0 c).After-run_block-s) (c.moved-read.ensures (after (goal.at.returns-then-s-eq0 c).After-run_block-s) refl) (c.moved-written.ensures (after (goal.at.returns-then-s-eq0 c).After-run_block-s) refl) c.if-s-eq0.true ∙ ap (λ x. answer_of (ok (Memory.ran (kernel c.args.file.now c.args.c) x))) (runs (goal.at.returns-then-s-eq0 c).After-run_block-s), memory_after (goal.at.returns-then-s-eq0 c).After-run_block-s)
-
-pub shape_of-output : goal.shape_of-output
-shape_of-output c = long (goal.at.shape_of-output c).After-run_block-s
 
 pub returns : goal.returns
 unfolding program_ran kernel
