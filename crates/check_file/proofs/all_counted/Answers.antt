@@ -20,7 +20,6 @@ use Rattle.check_file.proofs.all_counted.Goals as goal
 
 -- at a turn
 module _ (c : At-loop-j) where
-
   abbrev arrays : List Rec
   arrays = arrays_of c.args.file.now c.args.n
 
@@ -35,7 +34,6 @@ module _ (c : At-loop-j) where
 
 -- the test at array j
 module _ (c : After-same) where
-
   abbrev there : c.loop-j.j < (c c).args.n
   there = c.loop-j-test.true
 

@@ -19,7 +19,6 @@ use Rattle.check_file.proofs.judged.Goals as goal
 
 -- the walk has come to its end, or to a refusal
 module _ (c : After-check_block-r) where
-
   abbrev file : List ℕ
   file = c.args.file.now
 
