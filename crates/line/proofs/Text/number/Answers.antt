@@ -3,14 +3,6 @@ use native.Mathlib.Omega.{arith}
 use borrow.Author.Rules.{rules}
 use Rattle.line.proofs.Text.number.Goals as goal
 
-pub decimal-t-requires : goal.decimal-t-requires
-decimal-t-requires c =
-    search rules
-
-pub byte-requires : goal.byte-requires
-byte-requires c =
-    search rules
-
 pub returns : goal.returns
 returns c =
     let digits = c.decimal-t.ensures in (
