@@ -1,7 +1,6 @@
 -- `batch::answered` meets its contract: the reply to each call is what the call promises.
 use mathlib.Core.Path.{refl}
 use native.Mathlib.Omega.{arith}
-use borrow.Author.Rules.{rules}
 use Rattle.batch.proofs.Calls.{checked, array_ran, stream_ran, laid_out, put_back, no_call}
 use Rattle.batch.proofs.answered.Goals as goal
 

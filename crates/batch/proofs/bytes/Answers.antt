@@ -1,7 +1,6 @@
 -- `batch::bytes` meets its contract.
 use mathlib.Core.Path.{refl}
 use Rattle.batch.specs.Reply.{eight}
-use borrow.Author.Rules.{rules}
 use Rattle.batch.proofs.bytes.Goals as goal
 
 pub returns : goal.returns

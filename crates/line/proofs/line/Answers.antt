@@ -3,7 +3,6 @@ use mathlib.Core.Path.{sym, subst}
 use Rattle.kernel.specs.Answers as Answers
 use Rattle.check_file.specs.View.{answer}
 use Rattle.line.specs.View.{Shows}
-use borrow.Author.Rules.{rules}
 use Rattle.line.proofs.line.Goals as goal
 
 pub returns-in-Accepted : goal.returns-in-Accepted

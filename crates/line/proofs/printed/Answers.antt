@@ -2,7 +2,6 @@
 use mathlib.Core.Path.{sym, ap, subst, ◌∙◌}
 use native.Mathlib.Omega.{arith}
 use lib.Seq.{take_all, length-take-le}
-use borrow.Author.Rules.{rules}
 use Rattle.kernel.specs.Answers as Answers
 use Rattle.line.specs.View.{Shows}
 use Rattle.line.proofs.printed.Goals as goal

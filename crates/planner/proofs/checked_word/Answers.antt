@@ -1,6 +1,5 @@
 -- `planner::checked_word` meets its contract: the parts of each answer of the check.
 use mathlib.Core.List.{[], ◌∷◌}
-use borrow.Author.Rules.{rules}
 use Rattle.kernel.specs.Answers.{check_numbers, fault_numbers, refusal_numbers}
 use Rattle.check_file.specs.View.{answer}
 use Rattle.planner.proofs.Parts.{tells_before}

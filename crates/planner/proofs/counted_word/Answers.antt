@@ -1,5 +1,4 @@
 -- `planner::counted_word` meets its contract: the parts of each answer of the stream run.
-use borrow.Author.Rules.{rules}
 use Rattle.kernel.specs.Answers.{fault_numbers, ending_numbers}
 use Rattle.run_calls.specs.View.{answer}
 use Rattle.planner.proofs.Answered.{stream_answer_numbers, stream_tells}

@@ -1,6 +1,5 @@
 -- `planner::done_word` meets its contract: the parts of each answer of laying out and putting back.
 use mathlib.Core.List.{[], ◌∷◌}
-use borrow.Author.Rules.{rules}
 use Rattle.kernel.specs.Answers.{fault_numbers}
 use Rattle.run_calls.specs.View.{done}
 use Rattle.planner.proofs.Parts.{tells_before}

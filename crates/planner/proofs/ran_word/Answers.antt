@@ -1,6 +1,5 @@
 -- `planner::ran_word` meets its contract: the parts of each answer of the array run.
 use mathlib.Core.List.{[], ◌∷◌}
-use borrow.Author.Rules.{rules}
 use Rattle.kernel.specs.Answers.{fault_numbers, ending_numbers}
 use Rattle.run_calls.specs.View.{answer}
 use Rattle.planner.proofs.Parts.{tells_before}

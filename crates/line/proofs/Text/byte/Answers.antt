@@ -1,6 +1,5 @@
 -- `line::Text::byte` meets its contract: the last zero becomes the byte.
 use native.Mathlib.Omega.{arith}
-use borrow.Author.Rules.{rules}
 use Rattle.line.proofs.Texts.{one_more}
 use Rattle.line.proofs.Text.byte.Goals as goal
 

@@ -1,6 +1,5 @@
 -- `line::Text::number` meets its contract: the digits, and a space before them.
 use native.Mathlib.Omega.{arith}
-use borrow.Author.Rules.{rules}
 use Rattle.line.proofs.Text.number.Goals as goal
 
 pub returns : goal.returns
