@@ -16,7 +16,7 @@ use Rattle.numbers.specs.Words.{words}
 use Rattle.numbers.proofs.Results.{on_at}
 use Rattle.forms.specs.Form.{Form, value, constant, none as no_choice, Equal}
 use Rattle.forms.proofs.Values.{value_constant}
-use Rattle.kernel.specs.File.{Rec, nothing, Kernel, input, output, only, on, length_of, count_of, array}
+use Rattle.kernel.specs.File.{Rec, nothing, Kernel, input, output, only, on, length_of, count_of}
 use Rattle.kernel.specs.Reading.{array_scope, stream_scope, open_loops}
 use Rattle.kernel.specs.Machine.{State, place, Stuck, run, Layout}
 use Rattle.kernel.specs.Memory.{total, laid_out, sticks, moved, ran, start, outside, array_ran, stream_ran, layout}

@@ -10,7 +10,7 @@ use native.Mathlib.Omega.{arith}
 use native.Mathlib.Numerals.{add-one}
 use native.Mathlib.Nat.{add-zero, zero-add}
 use lib.Dec.{eqb}
-use lib.ListN.{length, get_or, set, take, drop, length-append, length-map, length-take, length-drop}
+use lib.ListN.{length, get_or, take, drop, length-append, length-map, length-take, length-drop}
 use lib.IntN.{◌+ℤ◌, +ℤ_idr, *ℤ-zero}
 use Rattle.numbers.specs.Result.{Result, ok, stop, ◌>>=◌, because}
 use Rattle.forms.specs.Form.{Form, put_at, moved_by, Loop, counter, limit, Choice}

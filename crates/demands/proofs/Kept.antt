@@ -12,9 +12,7 @@ use Rattle.kernel.specs.Reading.{Fault, fault, read_file}
 use Rattle.kernel.specs.Memory as Memory
 use Rattle.kernel.specs.Memory.{on_areas, afterwards, total, laid_out, put_back, array_ran, stream_ran, array_run, stream_run, lay_out, putting_back}
 use Rattle.run_calls.specs.declared.Ran.{Ran}
-use Rattle.run_calls.specs.declared.Ran.TheVariants as Ran
 use Rattle.run_calls.specs.declared.Done.{Done}
-use Rattle.run_calls.specs.declared.Done.TheVariants as Done
 use Rattle.run_calls.specs.View.{answer_of, answer, finished, done}
 use Rattle.run_calls.specs.Promises.{Runs, Moves}
 use Rattle.run_calls.proofs.One.{one_run, one_move}

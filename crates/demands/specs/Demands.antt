@@ -10,15 +10,12 @@ use Rattle.kernel.specs.Memory.{total, ended}
 use Rattle.agreement.specs.Agreement.{SticksAlike}
 use Rattle.agreement.specs.Exactness.{FirstBad}
 use Rattle.run_calls.specs.declared.Ran.{Ran}
-use Rattle.run_calls.specs.declared.Ran.TheVariants as Ran
 use Rattle.run_calls.specs.declared.Done.{Done}
-use Rattle.run_calls.specs.declared.Done.TheVariants as Done
 use Rattle.run_calls.specs.View.{Answer, answer}
 use Rattle.run_calls.specs.Promises.{ArrayRun, StreamRun, LayOut, PutBack}
 use Rattle.check_file.specs.declared.Refusal.{Refusal}
 use Rattle.check_file.specs.declared.Checked.{Checked}
 use Rattle.check_file.specs.View.{refusal}
-use Rattle.check_file.specs.declared.Checked.TheVariants as Checked
 use Rattle.check_file.specs.Promises.{Checks}
 
 -- ---- demand 1: lent memory

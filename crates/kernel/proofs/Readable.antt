@@ -18,7 +18,7 @@ use Rattle.numbers.proofs.Results.{On, on_ok, on_stop, on_need, on_then, on_map,
 use Rattle.numbers.proofs.Tests.{and_left, and_right, and_true, or_cases, each_of, between_range, within_abs, inside_index, equal_eq, eq_equal, every_at}
 use Rattle.numbers.proofs.Order.{abs_mul, abs_sub}
 use Rattle.forms.specs.Form.{coefficient, counter, limit}
-use Rattle.kernel.specs.File.{Rec, numbers, form, nothing, Kernel, input, output, side_of, on, only, length_of, first_of, count_of, step_of, index, none, whole_steps, loop_of, sayings, statement}
+use Rattle.kernel.specs.File.{Rec, numbers, form, nothing, Kernel, input, output, side_of, on, only, length_of, first_of, count_of, step_of, index, whole_steps, loop_of, sayings, statement}
 use Rattle.kernel.specs.Reading.{count, records, section, sections, zeros, array_fits, arrays_fit, Kind, array_only, stream_only, register, an_input, an_output, term, bound, table, Scope, array_scope, stream_scope, holds, has_pass, statement_fits, Open, after, closed, statements_fit, minus_one, form_fits, rule_fits, rules_fit, read_file}
 use Rattle.kernel.proofs.Sides.{side_nothing}
 use Rattle.kernel.specs.Guarantees.{ArrayFits, FormSmall, OnSide, LoopFits, StatementFits, Nested, over, then, RuleFits, All, Reads}

@@ -1,64 +1,28 @@
 -- `batch::answered` meets its contract: the reply to each call is what the call promises.
 use mathlib.Core.Path.{refl}
-use borrow.Author.Rules.{rules}
+use native.Mathlib.Omega.{arith}
 use Rattle.batch.proofs.Calls.{checked, array_ran, stream_ran, laid_out, put_back, no_call}
 use Rattle.batch.proofs.answered.Goals as goal
-
-pub sq_check-requires : goal.sq_check-requires
-sq_check-requires c =
-    search rules
-
-pub sq_array_run-requires : goal.sq_array_run-requires
-sq_array_run-requires c =
-    search rules
-
-pub sq_stream_run-requires : goal.sq_stream_run-requires
-sq_stream_run-requires c =
-    search rules
-
-pub sq_lay_out-requires : goal.sq_lay_out-requires
-sq_lay_out-requires c =
-    search rules
-
-pub sq_put_back-requires : goal.sq_put_back-requires
-sq_put_back-requires c =
-    search rules
 
 pub returns-in-1 : goal.returns-in-1
 returns-in-1 c =
     let a = c.args in
     checked a.call a.file.now a.input.now a.output.now _ _ c.in-1.is c.sq_check.ensures refl
 
-pub shape_of-output-in-2 : goal.shape_of-output-in-2
-shape_of-output-in-2 c =
-    search rules
-
 pub returns-in-2 : goal.returns-in-2
 returns-in-2 c =
     let a = c.args in
     array_ran a.call a.file.now a.input.now a.output.now _ _ c.in-2.is c.sq_array_run.ensures
-
-pub shape_of-output-in-3 : goal.shape_of-output-in-3
-shape_of-output-in-3 c =
-    search rules
 
 pub returns-in-3 : goal.returns-in-3
 returns-in-3 c =
     let a = c.args in
     stream_ran a.call a.file.now a.input.now a.output.now _ _ c.in-3.is c.sq_stream_run.ensures
 
-pub shape_of-output-in-4 : goal.shape_of-output-in-4
-shape_of-output-in-4 c =
-    search rules
-
 pub returns-in-4 : goal.returns-in-4
 returns-in-4 c =
     let a = c.args in
     laid_out a.call a.file.now a.input.now a.output.now _ _ c.in-4.is c.sq_lay_out.ensures
-
-pub shape_of-output-in-5 : goal.shape_of-output-in-5
-shape_of-output-in-5 c =
-    search rules
 
 pub returns-in-5 : goal.returns-in-5
 returns-in-5 c =

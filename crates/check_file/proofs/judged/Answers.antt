@@ -4,8 +4,6 @@ use mathlib.Core.Bool.{false}
 use mathlib.Core.List.{List, []}
 use Prim.Native.Nat.{ℕ}
 use native.Mathlib.Omega.{arith}
-use borrow.Author.Rules.{rules}
-use borrow.Author.Tests.{not-true, not-false}
 use Rattle.kernel.specs.Check as Check
 use Rattle.parts.specs.declared.Counts.{Counts}
 use Rattle.parts.proofs.Parts.{K, arrays_are, arrays_ready}
@@ -19,7 +17,6 @@ use Rattle.check_file.proofs.judged.Goals as goal
 
 -- the walk has come to its end, or to a refusal
 module _ (c : After-check_block-r) where
-
   abbrev file : List ℕ
   file = c.args.file.now
 
@@ -47,30 +44,30 @@ check_block-r-requires c =
 
 pub refused_at-requires : goal.refused_at-requires
 refused_at-requires c =
-    low (file (goal.at.refused_at-requires c).After-check_block-r) (counts (goal.at.refused_at-requires c).After-check_block-r) c.requires (to (goal.at.refused_at-requires c).After-check_block-r) (walk (goal.at.refused_at-requires c).After-check_block-r) c.if-r-ne0.true
+    low c.args.file.now c.args.c c.requires (with_ledger c.check_block-r.result c.check_block-r.new.l) (walk (goal.at.refused_at-requires c).After-check_block-r) c.if-r-ne0.true
 
 pub returns-then-r-ne0 : goal.returns-then-r-ne0
 returns-then-r-ne0 c =
-    ap answer c.refused_at.ensures ∙ answers_refused (file (goal.at.returns-then-r-ne0 c).After-check_block-r) (counts (goal.at.returns-then-r-ne0 c).After-check_block-r) c.requires (to (goal.at.returns-then-r-ne0 c).After-check_block-r) (walk (goal.at.returns-then-r-ne0 c).After-check_block-r) c.if-r-ne0.true
+    ap answer c.refused_at.ensures ∙ answers_refused c.args.file.now c.args.c c.requires (with_ledger c.check_block-r.result c.check_block-r.new.l) (walk (goal.at.returns-then-r-ne0 c).After-check_block-r) c.if-r-ne0.true
 
 pub all_counted-requires : goal.all_counted-requires
 all_counted-requires c =
-    arrays_ready (file (goal.at.all_counted-requires c).After-check_block-r) (counts (goal.at.all_counted-requires c).After-check_block-r) c.requires
+    arrays_ready c.args.file.now c.args.c c.requires
 
 pub refused_at-requires-then-not-all_counted : goal.refused_at-requires-then-not-all_counted
 refused_at-requires-then-not-all_counted c =
-    low_end (file (goal.at.refused_at-requires-then-not-all_counted c).After-check_block-r) (counts (goal.at.refused_at-requires-then-not-all_counted c).After-check_block-r) c.requires (c.check_block-r.ensures.1 c.if-r-ne0.false).0.stood
+    low_end c.args.file.now c.args.c c.requires (c.check_block-r.ensures.1 c.if-r-ne0.false).0.stood
 
 pub returns-then-not-all_counted : goal.returns-then-not-all_counted
 unfolding ledger
 returns-then-not-all_counted c =
     let z = c.if-r-ne0.false in
-    let k = c.all_counted.ensures (K (file (goal.at.returns-then-not-all_counted c).After-check_block-r) (counts (goal.at.returns-then-not-all_counted c).After-check_block-r)) (ledger (counts (goal.at.returns-then-not-all_counted c).After-check_block-r).a (counts (goal.at.returns-then-not-all_counted c).After-check_block-r).b (to (goal.at.returns-then-not-all_counted c).After-check_block-r).ledger) (arrays_are (file (goal.at.returns-then-not-all_counted c).After-check_block-r) (counts (goal.at.returns-then-not-all_counted c).After-check_block-r)) refl in
-    ap answer c.refused_at-then-not-all_counted.ensures ∙ answers_uncounted (file (goal.at.returns-then-not-all_counted c).After-check_block-r) (counts (goal.at.returns-then-not-all_counted c).After-check_block-r) c.requires (to (goal.at.returns-then-not-all_counted c).After-check_block-r) (walk (goal.at.returns-then-not-all_counted c).After-check_block-r) z (rests (goal.at.returns-then-not-all_counted c).After-check_block-r z) (sym (not-true _ c.if-not-all_counted.true) ∙ k)
+    let k = c.all_counted.ensures (K c.args.file.now c.args.c) (ledger c.args.c.a c.args.c.b (with_ledger c.check_block-r.result c.check_block-r.new.l).ledger) (arrays_are c.args.file.now c.args.c) refl in
+    ap answer c.refused_at-then-not-all_counted.ensures ∙ answers_uncounted c.args.file.now c.args.c c.requires (with_ledger c.check_block-r.result c.check_block-r.new.l) (walk (goal.at.returns-then-not-all_counted c).After-check_block-r) z (rests (goal.at.returns-then-not-all_counted c).After-check_block-r z) (sym c.if-not-all_counted.true ∙ k)
 
 pub returns : goal.returns
 unfolding ledger
 returns c =
     let z = c.if-r-ne0.false in
-    let k = c.all_counted.ensures (K (file (goal.at.returns c).After-check_block-r) (counts (goal.at.returns c).After-check_block-r)) (ledger (counts (goal.at.returns c).After-check_block-r).a (counts (goal.at.returns c).After-check_block-r).b (to (goal.at.returns c).After-check_block-r).ledger) (arrays_are (file (goal.at.returns c).After-check_block-r) (counts (goal.at.returns c).After-check_block-r)) refl in
-    answers_counted (file (goal.at.returns c).After-check_block-r) (counts (goal.at.returns c).After-check_block-r) c.requires (to (goal.at.returns c).After-check_block-r) (walk (goal.at.returns c).After-check_block-r) z (rests (goal.at.returns c).After-check_block-r z) (sym (not-false _ c.if-not-all_counted.false) ∙ k)
+    let k = c.all_counted.ensures (K c.args.file.now c.args.c) (ledger c.args.c.a c.args.c.b (with_ledger c.check_block-r.result c.check_block-r.new.l).ledger) (arrays_are c.args.file.now c.args.c) refl in
+    answers_counted c.args.file.now c.args.c c.requires (with_ledger c.check_block-r.result c.check_block-r.new.l) (walk (goal.at.returns c).After-check_block-r) z (rests (goal.at.returns c).After-check_block-r z) (sym c.if-not-all_counted.false ∙ k)

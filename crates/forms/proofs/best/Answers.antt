@@ -2,7 +2,6 @@
 use mathlib.Core.Path.{◌≡◌, sym, ap, ◌∙◌}
 use mathlib.Core.Bool.{cond}
 use Prim.Native.Nat.{◌^◌}
-use borrow.Author.Rules.{rules}
 use lib.IntN.{◌*ℤ◌}
 use lib.Signed.{le_z}
 use Rattle.numbers.specs.Bounds.{Small}
@@ -23,20 +22,20 @@ overflow_mul-b c = let p = c.requires in fits (product_back p.0 (last_small (goa
 
 -- what the two locals hold
 module _ (a : After-last-last) where
-  a-is : back (back a.args.x *ℤ back a.args.l.first) ≡ a.args.x *ℤ a.args.l.first
-  a-is = back_product a.requires.0 a.requires.1.first_small tt tt tt
+  a_is : back (back a.args.x *ℤ back a.args.l.first) ≡ a.args.x *ℤ a.args.l.first
+  a_is = back_product a.requires.0 a.requires.1.first_small tt tt tt
 
-  b-is : back (back a.args.x *ℤ back a.last-last.result) ≡ a.args.x *ℤ F.last (loop a.args.l)
-  b-is = back_product a.requires.0 (last_small a) tt tt tt ∙ ap (λ z. a.args.x *ℤ z) a.last-last.ensures
+  b_is : back (back a.args.x *ℤ back a.last-last.result) ≡ a.args.x *ℤ F.last (loop a.args.l)
+  b_is = back_product a.requires.0 (last_small a) tt tt tt ∙ ap (λ z. a.args.x *ℤ z) a.last-last.ensures
 
 pub returns-then-a-b : goal.returns-then-a-b
 unfolding F.larger
 returns-then-a-b c =
     let s = c.args in
-    b-is (goal.at.returns-then-a-b c).After-last-last ∙ sym (ap (λ t. cond t (s.x *ℤ F.last (loop s.l)) (s.x *ℤ s.l.first)) (sym (λ i. le_z (a-is (goal.at.returns-then-a-b c).After-last-last i) (b-is (goal.at.returns-then-a-b c).After-last-last i)) ∙ c.if-a-b.true))
+    b_is (goal.at.returns-then-a-b c).After-last-last ∙ sym (ap (λ t. cond t (s.x *ℤ F.last (loop s.l)) (s.x *ℤ s.l.first)) (sym (λ i. le_z (a_is (goal.at.returns-then-a-b c).After-last-last i) (b_is (goal.at.returns-then-a-b c).After-last-last i)) ∙ c.if-a-b.true))
 
 pub returns-else-a-b : goal.returns-else-a-b
 unfolding F.larger
 returns-else-a-b c =
     let s = c.args in
-    a-is (goal.at.returns-else-a-b c).After-last-last ∙ sym (ap (λ t. cond t (s.x *ℤ F.last (loop s.l)) (s.x *ℤ s.l.first)) (sym (λ i. le_z (a-is (goal.at.returns-else-a-b c).After-last-last i) (b-is (goal.at.returns-else-a-b c).After-last-last i)) ∙ c.if-a-b.false))
+    a_is (goal.at.returns-else-a-b c).After-last-last ∙ sym (ap (λ t. cond t (s.x *ℤ F.last (loop s.l)) (s.x *ℤ s.l.first)) (sym (λ i. le_z (a_is (goal.at.returns-else-a-b c).After-last-last i) (b_is (goal.at.returns-else-a-b c).After-last-last i)) ∙ c.if-a-b.false))

@@ -2,7 +2,7 @@
 use mathlib.Core.Path.{sym, ap, ◌∙◌}
 use mathlib.Core.Bool.{cond}
 use borrow.Author.Tests.{lt-ltb, le-ltb}
-use lib.IntN.{ℤ, pos, ◌*ℤ◌}
+use lib.IntN.{pos, ◌*ℤ◌}
 use Rattle.numbers.proofs.Signs.{small_back, as_it_is, as_returned}
 use Rattle.forms.specs.Form as F
 use Rattle.forms.specs.Code.{loop}

@@ -2,18 +2,9 @@
 use mathlib.Core.Path.{sym, ap, subst, ◌∙◌}
 use native.Mathlib.Omega.{arith}
 use lib.Seq.{take_all, length-take-le}
-use borrow.Author.Rules.{rules}
 use Rattle.kernel.specs.Answers as Answers
 use Rattle.line.specs.View.{Shows}
 use Rattle.line.proofs.printed.Goals as goal
-
-pub check-requires : goal.check-requires
-check-requires c =
-    search rules
-
-pub line-requires : goal.line-requires
-line-requires c =
-    search rules
 
 pub returns-then-input-le49436 : goal.returns-then-input-le49436
 unfolding Answers.printed
@@ -25,14 +16,6 @@ returns-then-input-le49436 c =
 pub slice_bounds-check-end : goal.slice_bounds-check-end
 slice_bounds-check-end c =
     sym (length-take-le _ c.args.input.now (omega (arith, c.if-input-le49436.false)))
-
-pub check-requires-2 : goal.check-requires-2
-check-requires-2 c =
-    search rules
-
-pub line-requires-2 : goal.line-requires-2
-line-requires-2 c =
-    search rules
 
 pub returns : goal.returns
 unfolding Answers.printed

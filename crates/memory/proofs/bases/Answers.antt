@@ -24,14 +24,14 @@ pub total-requires : goal.total-requires
 total-requires c =
     fewer c.loop-q.q c.loop-q.invariant.0 c.requires
 
-below-8 : (c : After-total) → c.loop-q.q < 8
-below-8 c = omega (arith, c.requires.few, c.loop-q-test.true)
+below_8 : (c : After-total) → c.loop-q.q < 8
+below_8 c = omega (arith, c.requires.few, c.loop-q-test.true)
 
 pub offset_bounds-t-q : goal.offset_bounds-t-q
-offset_bounds-t-q c = omega (arith, below-8 c)
+offset_bounds-t-q c = omega (arith, below_8 c)
 
 pub bounds-t-q : goal.bounds-t-q
-bounds-t-q c = omega (arith, below-8 c)
+bounds-t-q c = omega (arith, below_8 c)
 
 pub loop-q-preserved : goal.loop-q-preserved
 loop-q-preserved c =
@@ -39,7 +39,7 @@ loop-q-preserved c =
     let v = c.loop-q in
     let here = base_is a.file.now a.n v.q c.loop-q-test.true a.m c.side_of-side.result c.side_of-side.ensures in (
       search rules,
-      filled_more (base a.m (arrays_of a.file.now a.n)) v.q c.total.result v.t v.invariant.1 (below-8 c) (c.total.ensures.0 ∙ here),
+      filled_more (base a.m (arrays_of a.file.now a.n)) v.q c.total.result v.t v.invariant.1 (below_8 c) (c.total.ensures.0 ∙ here),
     )
 
 pub returns : goal.returns

@@ -19,21 +19,21 @@ pub size_of-requires : goal.size_of-requires
 size_of-requires c =
     array_there c.args.file.now c.args.n c.loop-q.q c.loop-q-test.true c.requires
 
-below-8 : (c : After-size_of) → c.loop-q.q < 8
-below-8 c = omega (arith, c.requires.few, c.loop-q-test.true)
+below_8 : (c : After-size_of) → c.loop-q.q < 8
+below_8 c = omega (arith, c.requires.few, c.loop-q-test.true)
 
 pub offset_bounds-t-q : goal.offset_bounds-t-q
-offset_bounds-t-q c = omega (arith, below-8 c)
+offset_bounds-t-q c = omega (arith, below_8 c)
 
 pub bounds-t-q : goal.bounds-t-q
-bounds-t-q c = omega (arith, below-8 c)
+bounds-t-q c = omega (arith, below_8 c)
 
 pub loop-q-preserved : goal.loop-q-preserved
 loop-q-preserved c =
     let a = c.args in
     let v = c.loop-q in (
       search rules,
-      filled_more (size a.m (arrays_of a.file.now a.n)) v.q c.size_of.result v.t v.invariant.1 (below-8 c) (c.size_of.ensures ∙ ap (measure a.m) (sym (array_is a.file.now a.n v.q c.loop-q-test.true))),
+      filled_more (size a.m (arrays_of a.file.now a.n)) v.q c.size_of.result v.t v.invariant.1 (below_8 c) (c.size_of.ensures ∙ ap (measure a.m) (sym (array_is a.file.now a.n v.q c.loop-q-test.true))),
     )
 
 pub returns : goal.returns

@@ -1,6 +1,5 @@
 -- `numbers::near` meets its contract.
 use Rattle.numbers.proofs.Ranges.{near_low, near_high}
-use Rattle.std.proofs.Common.{rules}
 use Rattle.numbers.proofs.near.Goals as goal
 
 pub returns-then-w-n : goal.returns-then-w-n

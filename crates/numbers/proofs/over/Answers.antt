@@ -1,5 +1,5 @@
 -- `numbers::over` meets its contract: in 64 bits every quotient of two signed words fits.
-use Rattle.std.proofs.Common.{◌≡◌, ◌^◌, ap, ◌∙◌, rules}
+use Rattle.std.proofs.Common.{◌≡◌, ◌^◌, ap, ◌∙◌}
 use lib.Signed.{quot_z}
 use Rattle.numbers.specs.Bounds.{Small}
 use Rattle.numbers.specs.Words.{signed, low32, over}

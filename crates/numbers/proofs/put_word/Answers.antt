@@ -1,5 +1,5 @@
 -- `numbers::put_word` meets its contract.
-use Rattle.std.proofs.Common.{sym, arith, length-set, rules}
+use Rattle.std.proofs.Common.{sym, arith, length-set}
 use Rattle.numbers.proofs.Areas.{put_there, put_past}
 use Rattle.numbers.proofs.put_word.Goals as goal
 

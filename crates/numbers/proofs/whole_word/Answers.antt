@@ -1,6 +1,6 @@
 -- `numbers::whole_word` meets its contract: the four bytes are those of the word.
 use Rattle.numbers.proofs.Areas.{word_at}
-use Rattle.std.proofs.Common.{◌+◌, ◌*◌, ap, ◌∙◌, ap₂, rules}
+use Rattle.std.proofs.Common.{◌+◌, ◌*◌, ap, ◌∙◌, ap₂}
 use Rattle.numbers.proofs.whole_word.Goals as goal
 
 pub returns : goal.returns

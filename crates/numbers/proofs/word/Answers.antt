@@ -1,5 +1,5 @@
 -- `numbers::word` meets its contract.
-use Rattle.std.proofs.Common.{sym, rules}
+use Rattle.std.proofs.Common.{sym}
 use Rattle.numbers.proofs.Areas.{word_past}
 use Rattle.numbers.proofs.word.Goals as goal
 

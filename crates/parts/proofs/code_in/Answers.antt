@@ -1,6 +1,5 @@
 -- `parts::code_in` meets its contract: a record's code is the first of its numbers.
 use mathlib.Core.Path.{◌∙◌}
-use borrow.Author.Rules.{rules}
 use Rattle.parts.proofs.Records.{code_there}
 use Rattle.parts.proofs.code_in.Goals as goal
 

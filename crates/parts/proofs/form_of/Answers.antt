@@ -3,7 +3,6 @@ use mathlib.Core.Path.{◌∙◌}
 use mathlib.Core.List.{[], ◌∷◌}
 use Rattle.numbers.proofs.Signs.{as_returned}
 use Rattle.kernel.specs.File as File
-use borrow.Author.Rules.{rules}
 use Rattle.parts.proofs.form_of.Goals as goal
 
 pub returns : goal.returns

@@ -6,7 +6,6 @@ use native.Mathlib.Nat.{mul_comm}
 use native.Mathlib.Omega.{arith}
 use lib.ListN.{length, take, drop, length-drop, drop_of_length-le}
 use lib.Seq.{take_all, drop-length}
-use borrow.Author.Rules.{rules}
 use Rattle.parts.proofs.from_record.Goals as goal
 
 -- the part from a to the end

@@ -1,5 +1,4 @@
 -- `parts::length_of` meets its contract.
-use borrow.Author.Rules.{rules}
 use Rattle.kernel.specs.File.{numbers}
 use Rattle.parts.proofs.length_of.Goals as goal
 

@@ -1,6 +1,5 @@
 -- `parts::loop_of` meets its contract: first, step and passes from three numbers of the record.
 use mathlib.Core.Path.{◌∙◌}
-use borrow.Author.Rules.{rules}
 use Rattle.numbers.proofs.Signs.{as_returned}
 use Rattle.kernel.specs.File.{loop_of}
 use Rattle.parts.proofs.loop_of.Goals as goal

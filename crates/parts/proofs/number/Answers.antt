@@ -2,7 +2,6 @@
 use Prim.Native.Nat.{◌+◌, ◌*◌}
 use mathlib.Core.Path.{sym, ◌∙◌}
 use native.Mathlib.Omega.{arith}
-use borrow.Author.Rules.{rules}
 use Rattle.numbers.specs.Words.{words}
 use Rattle.numbers.specs.Areas.{word}
 use Rattle.numbers.proofs.Areas.{words_length}

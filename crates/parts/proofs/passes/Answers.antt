@@ -3,7 +3,6 @@ use mathlib.Core.Path.{◌≡◌, ◌∙◌}
 use Prim.Native.Nat.{ℕ, ◌^◌, ◌<◌}
 use native.Mathlib.Nat as NatL
 use lib.IntN.{ℤ, ◌-ℤ◌}
-use borrow.Author.Rules.{rules}
 use Rattle.numbers.specs.Words.{signed}
 use Rattle.numbers.specs.Bounds.{Small}
 use Rattle.numbers.proofs.Signs.{small_signed}

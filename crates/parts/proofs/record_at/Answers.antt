@@ -6,7 +6,6 @@ use Rattle.numbers.proofs.Areas.{words_length}
 use Rattle.numbers.specs.Areas.{word}
 use Rattle.numbers.specs.Words.{words}
 use Rattle.parts.proofs.Records.{record_there}
-use borrow.Author.Rules.{rules}
 use Rattle.parts.proofs.record_at.Goals as goal
 
 pub returns : goal.returns

@@ -1,5 +1,4 @@
 -- `parts::shown` meets its contract: the test picks the program.
-use borrow.Author.Rules.{rules}
 use borrow.Author.Tests.{eq-eqb, ne_eqb}
 use Rattle.kernel.specs.Answers.{shown}
 use Rattle.parts.proofs.shown.Goals as goal

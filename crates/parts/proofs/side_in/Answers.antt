@@ -1,6 +1,5 @@
 -- `parts::side_in` meets its contract: an array of the n, or what stands past the last.
 use mathlib.Core.Path.{sym, ap, ◌∙◌}
-use borrow.Author.Rules.{rules}
 use Rattle.kernel.specs.File.{side_of}
 use Rattle.kernel.proofs.Sides.{side_nothing}
 use Rattle.parts.proofs.Arrays.{array_is, array_past}

@@ -1,5 +1,4 @@
 -- `parts::side_of` meets its contract.
-use borrow.Author.Rules.{rules}
 use Rattle.kernel.specs.File.{numbers, side_of}
 use Rattle.parts.proofs.side_of.Goals as goal
 

@@ -1,6 +1,5 @@
 -- `parts::size_of` meets its contract: a measure is one of two.
 use mathlib.Core.Path.{sym, ap, ◌∙◌}
-use borrow.Author.Rules.{rules}
 use Rattle.parts.specs.Arrays.{array_at, measure}
 use Rattle.parts.proofs.size_of.Goals as goal
 

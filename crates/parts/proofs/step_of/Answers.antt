@@ -1,6 +1,5 @@
 -- `parts::step_of` meets its contract.
 use mathlib.Core.Path.{ap, ◌∙◌}
-use borrow.Author.Rules.{rules}
 use Rattle.numbers.specs.Words.{signed}
 use Rattle.numbers.proofs.Signs.{as_returned}
 use Rattle.kernel.specs.File.{numbers, step_of}

@@ -1,6 +1,5 @@
 -- `planner::packed` meets its contract: each part has 16 bits.
 use native.Mathlib.Omega.{arith}
-use borrow.Author.Rules.{rules}
 use Rattle.numbers.specs.Areas.{none_there, below_too}
 use Rattle.planner.specs.Words.{packed}
 use Rattle.planner.proofs.packed.Goals as goal

@@ -1,6 +1,5 @@
 -- `planner::refused_word` meets its contract: the fourth part is 0.
 use mathlib.Core.List.{[], ◌∷◌}
-use borrow.Author.Rules.{rules}
 use Rattle.planner.proofs.Parts.{tells_before}
 use Rattle.planner.proofs.refused_word.Goals as goal
 

@@ -1,5 +1,4 @@
 -- `planner::sq_array_run` meets its contract: the array run, and its answer as a word.
-use borrow.Author.Rules.{rules}
 use Rattle.planner.proofs.sq_array_run.Goals as goal
 
 pub returns : goal.returns

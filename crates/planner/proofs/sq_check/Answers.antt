@@ -1,6 +1,5 @@
 -- `planner::sq_check` meets its contract: the check, and its answer as a word.
 use mathlib.Core.Path.{subst}
-use borrow.Author.Rules.{rules}
 use Rattle.kernel.specs.Answers.{check_numbers}
 use Rattle.planner.specs.Words.{Tells}
 use Rattle.planner.proofs.sq_check.Goals as goal

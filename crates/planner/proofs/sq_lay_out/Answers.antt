@@ -1,5 +1,4 @@
 -- `planner::sq_lay_out` meets its contract: laying out, and its answer as a word.
-use borrow.Author.Rules.{rules}
 use Rattle.planner.proofs.sq_lay_out.Goals as goal
 
 pub returns : goal.returns

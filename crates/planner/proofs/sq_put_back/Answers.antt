@@ -1,5 +1,4 @@
 -- `planner::sq_put_back` meets its contract: putting back, and its answer as a word.
-use borrow.Author.Rules.{rules}
 use Rattle.planner.proofs.sq_put_back.Goals as goal
 
 pub returns : goal.returns

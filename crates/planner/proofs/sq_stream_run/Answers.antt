@@ -1,5 +1,4 @@
 -- `planner::sq_stream_run` meets its contract: the stream run, and its answer as a word.
-use borrow.Author.Rules.{rules}
 use Rattle.planner.proofs.sq_stream_run.Goals as goal
 
 pub returns : goal.returns

@@ -6,7 +6,6 @@ use Rattle.kernel.specs.Reading.{open_loops, all_passes, after, after_op}
 use Rattle.parts.specs.Records.{rec}
 use Rattle.read_blocks.specs.View.{block, opens}
 use Rattle.read_blocks.proofs.Statements.{nested_fine, by_code, by_no_code}
-use borrow.Author.Rules.{rules}
 use Rattle.read_blocks.proofs.after.Goals as goal
 
 pub for_opened-requires : goal.for_opened-requires

@@ -3,7 +3,6 @@ use mathlib.Core.Path.{refl}
 use native.Mathlib.Nat as NatL
 use Rattle.read_blocks.specs.View.{opens}
 use Rattle.read_blocks.proofs.Opens.{is_refused, else_none, else_refused, at_its_else}
-use borrow.Author.Rules.{rules}
 use Rattle.read_blocks.proofs.at_else.Goals as goal
 
 pub returns-then-depth-eq0 : goal.returns-then-depth-eq0

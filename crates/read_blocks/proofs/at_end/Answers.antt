@@ -3,7 +3,6 @@ use mathlib.Core.Path.{refl}
 use native.Mathlib.Nat as NatL
 use Rattle.read_blocks.specs.View.{opens}
 use Rattle.read_blocks.proofs.Opens.{is_refused, end_none, end_refused, end_of_if, end_of_for, for_there}
-use borrow.Author.Rules.{rules}
 use Rattle.read_blocks.proofs.at_end.Goals as goal
 
 pub returns-then-depth-eq0 : goal.returns-then-depth-eq0

@@ -9,7 +9,6 @@ use Rattle.kernel.specs.Reading.{open_for}
 use Rattle.parts.specs.Records.{rec}
 use Rattle.read_blocks.specs.View.{opens}
 use Rattle.read_blocks.proofs.Statements.{block_for, for_loop, for_its_passes}
-use borrow.Author.Rules.{rules}
 use Rattle.read_blocks.proofs.for_opened.Goals.{After-loop_of-l}
 use Rattle.read_blocks.proofs.for_opened.Goals as goal
 

@@ -5,7 +5,6 @@ use Rattle.kernel.specs.File as File
 use Rattle.parts.specs.Records.{rec}
 use Rattle.read_blocks.proofs.Opens.{is_refused}
 use Rattle.read_blocks.proofs.Statements.{nested_fine, names_fine, names_refused}
-use borrow.Author.Rules.{rules}
 use Rattle.read_blocks.proofs.named.Goals as goal
 
 pub returns-then-around : goal.returns-then-around

@@ -5,7 +5,6 @@ use native.Mathlib.Nat as NatL
 use lib.Dec.{lit<}
 use Rattle.read_blocks.proofs.Statements.{one_loop}
 use Rattle.read_blocks.proofs.Opens.{is_refused, too_deep, too_many, too_long, one_more}
-use borrow.Author.Rules.{rules}
 use Rattle.read_blocks.proofs.opened.Goals as goal
 
 pub returns-then-depth-ge8 : goal.returns-then-depth-ge8

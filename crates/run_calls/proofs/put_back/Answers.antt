@@ -1,6 +1,5 @@
 -- `run_calls::put_back` meets its contract: reading first.
-use mathlib.Core.Path.{sym, ap, ◌∙◌}
-use borrow.Author.Rules.{rules}
+use mathlib.Core.Path.{sym, refl}
 use Rattle.kernel.specs.File.{output, length_of, count_of}
 use Rattle.kernel.specs.Reading.{fault}
 use Rattle.kernel.specs.Memory as Memory
@@ -10,17 +9,10 @@ use Rattle.run_calls.proofs.Calls.{refused_move, call_stops}
 use Rattle.run_calls.proofs.put_back.Goals as goal
 
 pub put_back_of-requires : goal.put_back_of-requires
-put_back_of-requires c = read_as c.args.file.now _ _ c.read.ensures c.c-1.given.1
-
-pub shape_of-arrays : goal.shape_of-arrays
-shape_of-arrays c = c.put_back_of.auto.arrays
-
-pub returns-in-Kernel : goal.returns-in-Kernel
-returns-in-Kernel c = c.put_back_of.ensures
+put_back_of-requires c = read_as c.args.file.now _ _ c.in-Kernel.ensures refl
 
 pub returns-in-Refused : goal.returns-in-Refused
 unfolding Found.answer Memory.putting_back
 returns-in-Refused c =
     let a = c.args in
-    let stops = sym c.read.ensures ∙ ap (Found.answer a.file.now) c.number-1.given.1 in
-    refused_move _ _ _ _ _ (call_stops (Memory.total output count_of) (Memory.total output length_of) Memory.put_back a.file.now a.streams.now a.arrays.now (fault _ _ _) stops)
+    refused_move _ _ _ _ _ (call_stops (Memory.total output count_of) (Memory.total output length_of) Memory.put_back a.file.now a.streams.now a.arrays.now (fault _ _ _) (sym c.in-Refused.ensures))

@@ -1,41 +1,25 @@
 -- `run_calls::run` meets its contract: a wrong length, or the run.
-use mathlib.Core.Path.{◌≡◌}
-use mathlib.Core.Bool.{Bool, ◌&&◌}
-use lib.Dec.{eqb}
-use lib.ListN.{length}
-use Prim.Native.Nat.{◌*◌}
-use borrow.Author.Rules.{rules}
-use borrow.Author.Tests.{not-true, not-false}
-use Rattle.kernel.specs.File.{Kernel, input, output}
+use Rattle.kernel.specs.File.{input, output}
 use Rattle.kernel.specs.Memory as Memory
 use Rattle.parts.specs.Parts.{records_in, kernel}
 use Rattle.parts.specs.Arrays.{measure}
 use Rattle.parts.proofs.Parts.{arrays_ready}
 use Rattle.run_calls.specs.View.{program_ran}
 use Rattle.run_calls.proofs.Calls.{wrong_lengths, right_lengths, both_as, each_long, refused_run, ran_run}
-use Rattle.run_calls.proofs.run.Goals.{After-right_lengths}
 use Rattle.run_calls.proofs.run.Goals as goal
-
--- what the test says of the lengths
-module _ (c : After-right_lengths) where
-  lengths : {t : Bool} → c.right_lengths.result ≡ t → (eqb (length c.args.input.now) (4 * Memory.total input (measure c.args.m) c) && eqb (length c.args.output.now) (4 * Memory.total output (measure c.args.m) c)) ≡ t
-  lengths e = both_as c.args.file.now c.args.c c.of-first.ensures c.of-second.ensures _ c.right_lengths.ensures _ e
 
 pub right_lengths-requires : goal.right_lengths-requires
 right_lengths-requires c = arrays_ready c.args.file.now c.args.c c.requires.read
 
 pub returns-then-not-right_lengths : goal.returns-then-not-right_lengths
 returns-then-not-right_lengths c =
-    refused_run _ _ 21 0 0 (wrong_lengths (Memory.total input (measure c.args.m)) (Memory.total output (measure c.args.m)) (program_ran c.args.m (records_in c.args.file.now c.args.part)) c c.args.input.now c.args.output.now (lengths (goal.at.returns-then-not-right_lengths c).After-right_lengths (not-true _ c.if-not-right_lengths.true)))
+    refused_run _ _ 21 0 0 (wrong_lengths (Memory.total input (measure c.args.m)) (Memory.total output (measure c.args.m)) (program_ran c.args.m (records_in c.args.file.now c.args.part)) (kernel c.args.file.now c.args.c) c.args.input.now c.args.output.now (both_as c.args.file.now c.args.c c.of-first.ensures c.of-second.ensures _ c.right_lengths.ensures _ c.if-not-right_lengths.true))
 
 pub started-requires : goal.started-requires
 started-requires c =
-    (c.requires, (each_long c.args.file.now c.args.c c.of-first.ensures c.of-second.ensures _ c.right_lengths.ensures (not-false _ c.if-not-right_lengths.false)).1)
-
-pub shape_of-output : goal.shape_of-output
-shape_of-output c = c.started.auto.output
+    (c.requires, (each_long c.args.file.now c.args.c c.of-first.ensures c.of-second.ensures _ c.right_lengths.ensures c.if-not-right_lengths.false).1)
 
 pub returns : goal.returns
 returns c =
     let r = c.started.ensures in
-    ran_run _ _ _ _ _ (right_lengths (Memory.total input (measure c.args.m)) (Memory.total output (measure c.args.m)) (program_ran c.args.m (records_in c.args.file.now c.args.part)) c c.args.input.now c.args.output.now (lengths (goal.at.returns c).After-right_lengths (not-false _ c.if-not-right_lengths.false))) r.0 r.1
+    ran_run _ _ _ _ _ (right_lengths (Memory.total input (measure c.args.m)) (Memory.total output (measure c.args.m)) (program_ran c.args.m (records_in c.args.file.now c.args.part)) (kernel c.args.file.now c.args.c) c.args.input.now c.args.output.now (both_as c.args.file.now c.args.c c.of-first.ensures c.of-second.ensures _ c.right_lengths.ensures _ c.if-not-right_lengths.false)) r.0 r.1

@@ -3,11 +3,10 @@ use Prim.Native.Nat.{ℕ, ◌≤◌}
 use mathlib.Core.Path.{◌≡◌, refl, sym, ap, subst, ◌∙◌}
 use mathlib.Core.List.{List, []}
 use native.Mathlib.Omega.{arith}
-use lib.ListN.{length, replicate}
-use borrow.Author.Rules.{rules}
+use lib.ListN.{replicate}
 use Rattle.numbers.specs.Result.{ok}
 use Rattle.numbers.specs.Words.{words, bytes}
-use Rattle.kernel.specs.File.{Rec, Kernel, input, output}
+use Rattle.kernel.specs.File.{input, output}
 use Rattle.kernel.specs.Reading.{open_loops}
 use Rattle.kernel.specs.Trees.{tree}
 use Rattle.kernel.specs.Machine.{State, run}
@@ -24,19 +23,8 @@ use Rattle.run_ops.specs.Layout.{layout}
 use Rattle.run_calls.specs.View.{answer_of, program_ran}
 use Rattle.run_calls.proofs.Ready.{inputs_few, outputs_few, cleared_words, cleared_whole, layout_is, start_is, tree_is}
 use Rattle.run_calls.proofs.Outcome.{items_few, ended_is, stuck_is, memory_is}
-use Rattle.run_calls.proofs.started.Goals.{After-run_block-s, Start}
+use Rattle.run_calls.proofs.started.Goals.{After-run_block-s}
 use Rattle.run_calls.proofs.started.Goals as goal
-
--- the arrays and the program of the file
-module _ (s : Start) where
-  abbrev arrays : List Rec
-  arrays = arrays_of s.args.file.now s.args.c.a
-
-  abbrev program : List Rec
-  program = records_in s.args.file.now s.args.part
-
-  abbrev K : Kernel
-  K = kernel s.args.file.now s.args.c
 
 pub sizes-sizes-requires : goal.sizes-sizes-requires
 sizes-sizes-requires c = arrays_ready c.args.file.now c.args.c c.requires.0.read
@@ -59,7 +47,7 @@ run_block-s-requires c =
         level_is = sym (ap (λ (r : Counters). r.level) o);
       },
       subst CountersSmall (sym o) (record { c0_small = record { abs = omega arith }; c1_small = record { abs = omega arith }; c2_small = record { abs = omega arith }; c3_small = record { abs = omega arith } }),
-      cleared_whole c.args.output.now (total output c.args.m (arrays (goal.at.run_block-s-requires c).Start)) c.requires.1 clear.new.0 clear.ensures,
+      cleared_whole c.args.output.now (total output c.args.m (arrays_of c.args.file.now c.args.c.a)) c.requires.1 clear.new.area clear.ensures,
     )
 
 -- where the program has run
@@ -71,24 +59,21 @@ module _ (c : After-run_block-s) where
   after = state c.run_block-s.new.regs c.run_block-s.new.places (words c.run_block-s.new.out)
 
   -- no more items than there are
-  few : (side : ℕ) → moved side 0 (arrays ⟪Start⟫) after ≤ total side c.args.m (arrays ⟪Start⟫)
-  few = items_few (layout c.sizes-sizes.result c.bases-bases.result memory) (arrays ⟪Start⟫) c.args.m _ _ after _ _ (replicate 48 4294967296) (words c.clear.new.area) c.sizes-sizes.ensures c.run_block-s.ensures.0
+  few : (side : ℕ) → moved side 0 (arrays_of c.args.file.now c.args.c.a) after ≤ total side c.args.m (arrays_of c.args.file.now c.args.c.a)
+  few = items_few (layout c.sizes-sizes.result c.bases-bases.result memory) (arrays_of c.args.file.now c.args.c.a) c.args.m _ _ after _ _ (replicate 48 4294967296) (words c.clear.new.area) c.sizes-sizes.ensures c.run_block-s.ensures.0
 
   runs : stopped c.run_block-s.result.reason c.run_block-s.result.at after
-      ≡ run (Memory.layout (measure c.args.m) (K ⟪Start⟫) memory) (tree (program ⟪Start⟫)) Memory.outside (Memory.start (measure c.args.m) (K ⟪Start⟫))
+      ≡ run (Memory.layout (measure c.args.m) (kernel c.args.file.now c.args.c) memory) (tree (records_in c.args.file.now c.args.part)) Memory.outside (Memory.start (measure c.args.m) (kernel c.args.file.now c.args.c))
   runs =
       let clear = c.clear in
       let file = c.args.file.now in
-      let zeros = cleared_words c.args.output.now (total output c.args.m (arrays ⟪Start⟫)) c.requires.1 clear.new.0 clear.ensures in
+      let zeros = cleared_words c.args.output.now (total output c.args.m (arrays_of c.args.file.now c.args.c.a)) c.requires.1 clear.new.area clear.ensures in
       c.run_block-s.ensures.0
-      ∙ (λ i. run (layout_is file c.args.c c.args.m c.sizes-sizes.result c.bases-bases.result memory c.sizes-sizes.ensures c.bases-bases.ensures i) (tree_is (program ⟪Start⟫) i) (counters (c.outside.ensures i)) (start_is file c.args.c c.args.m (words clear.new.0) zeros i))
+      ∙ (λ i. run (layout_is file c.args.c c.args.m c.sizes-sizes.result c.bases-bases.result memory c.sizes-sizes.ensures c.bases-bases.ensures i) (tree_is (records_in c.args.file.now c.args.part) i) (counters (c.outside.ensures i)) (start_is file c.args.c c.args.m (words clear.new.area) zeros i))
 
-  memory-after : c.run_block-s.new.out ≡ bytes (program_ran c.args.m (program ⟪Start⟫) (K ⟪Start⟫) memory).memory
+  memory_after : c.run_block-s.new.out ≡ bytes (program_ran c.args.m (records_in c.args.file.now c.args.part) (kernel c.args.file.now c.args.c) memory).memory
   unfolding program_ran
-  memory-after = sym c.run_block-s.ensures.1 ∙ ap bytes (memory_is (K ⟪Start⟫) c.run_block-s.result.reason c.run_block-s.result.at after ∙ ap (λ r. (Memory.ran (K ⟪Start⟫) r).memory) runs)
-
-  long : length c.run_block-s.new.out ≡ length c.args.output.now
-  long = c.run_block-s.auto.out ∙ c.clear.auto.area
+  memory_after = sym c.run_block-s.ensures.1 ∙ ap bytes (memory_is (kernel c.args.file.now c.args.c) c.run_block-s.result.reason c.run_block-s.result.at after ∙ ap (λ r. (Memory.ran (kernel c.args.file.now c.args.c) r).memory) runs)
 
 pub moved-read-requires : goal.moved-read-requires
 moved-read-requires c = arrays_ready c.args.file.now c.args.c c.requires.0.read
@@ -104,18 +89,12 @@ pub overflow_cast-written : goal.overflow_cast-written
 overflow_cast-written c =
     omega (arith, c.moved-written.ensures (after (goal.at.overflow_cast-written c).After-run_block-s) refl, few (goal.at.overflow_cast-written c).After-run_block-s output, outputs_few c.args.file.now c.args.c c.requires.0.read c.args.m)
 
-pub shape_of-output-then-s-eq0 : goal.shape_of-output-then-s-eq0
-shape_of-output-then-s-eq0 c = long (goal.at.shape_of-output-then-s-eq0 c).After-run_block-s
-
 pub returns-then-s-eq0 : goal.returns-then-s-eq0
 unfolding program_ran kernel
 returns-then-s-eq0 c =
-    (ended_is (K (goal.at.returns-then-s-eq0 c).Start) _ _ _ _ (after (goal.at.returns-then-s-eq0 c).After-run_block-s) (c.moved-read.ensures (after (goal.at.returns-then-s-eq0 c).After-run_block-s) refl) (c.moved-written.ensures (after (goal.at.returns-then-s-eq0 c).After-run_block-s) refl) c.if-s-eq0.true ∙ ap (λ x. answer_of (ok (Memory.ran (K (goal.at.returns-then-s-eq0 c).Start) x))) (runs (goal.at.returns-then-s-eq0 c).After-run_block-s), memory-after (goal.at.returns-then-s-eq0 c).After-run_block-s)
-
-pub shape_of-output : goal.shape_of-output
-shape_of-output c = long (goal.at.shape_of-output c).After-run_block-s
+    (ended_is (kernel c.args.file.now c.args.c) _ _ _ _ (after (goal.at.returns-then-s-eq0 c).After-run_block-s) (c.moved-read.ensures (after (goal.at.returns-then-s-eq0 c).After-run_block-s) refl) (c.moved-written.ensures (after (goal.at.returns-then-s-eq0 c).After-run_block-s) refl) c.if-s-eq0.true ∙ ap (λ x. answer_of (ok (Memory.ran (kernel c.args.file.now c.args.c) x))) (runs (goal.at.returns-then-s-eq0 c).After-run_block-s), memory_after (goal.at.returns-then-s-eq0 c).After-run_block-s)
 
 pub returns : goal.returns
 unfolding program_ran kernel
 returns c =
-    (stuck_is (K (goal.at.returns c).Start) _ _ _ _ (after (goal.at.returns c).After-run_block-s) (c.moved-read.ensures (after (goal.at.returns c).After-run_block-s) refl) (c.moved-written.ensures (after (goal.at.returns c).After-run_block-s) refl) c.if-s-eq0.false ∙ ap (λ x. answer_of (ok (Memory.ran (K (goal.at.returns c).Start) x))) (runs (goal.at.returns c).After-run_block-s), memory-after (goal.at.returns c).After-run_block-s)
+    (stuck_is (kernel c.args.file.now c.args.c) _ _ _ _ (after (goal.at.returns c).After-run_block-s) (c.moved-read.ensures (after (goal.at.returns c).After-run_block-s) refl) (c.moved-written.ensures (after (goal.at.returns c).After-run_block-s) refl) c.if-s-eq0.false ∙ ap (λ x. answer_of (ok (Memory.ran (kernel c.args.file.now c.args.c) x))) (runs (goal.at.returns c).After-run_block-s), memory_after (goal.at.returns c).After-run_block-s)

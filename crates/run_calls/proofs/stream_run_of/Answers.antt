@@ -14,12 +14,9 @@ pub run-requires : goal.run-requires
 run-requires c =
     subst (Ready c.args.file.now c.args.c) (sym c.stream_part-part.ensures) (stream_ready c.args.file.now c.args.c c.requires)
 
-pub shape_of-output : goal.shape_of-output
-shape_of-output c = c.run.auto.output
-
 pub returns : goal.returns
 returns c =
     let r = c.run in
-    subst (λ x. Runs x c.args.output.now r.result r.new.1.1.1.1.1.0)
+    subst (λ x. Runs x c.args.output.now r.result r.new.output)
     (stream_call c.args.file.now c.args.c c.requires c.args.input.now c.args.output.now _ c.stream_part-part.ensures)
     r.ensures

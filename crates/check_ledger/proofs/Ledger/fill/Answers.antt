@@ -33,8 +33,8 @@ returns c =
           let next =
           along.ensures
           ∙ (λ i. F.along ((as_it_is c.requires.3 tt ∙ first) i) ((as_it_is c.requires.4 tt ∙ step) i) (form (c.position-f.ensures i))) in
-          let held-is = ap (λ n. held (record { number = n; index = along.result })) (as_returned {z = number.result} number.type_inv ∙ number.ensures) ∙ filled a d l K q next h in
+          let held_is = ap (λ n. held (record { number = n; index = along.result })) (as_returned {z = number.result} number.type_inv ∙ number.ensures) ∙ filled a d l K q next h in
           c.passed.ensures.0 a d h
-          ∙ ap (L.passed q) (hold_right a d l c.args.b H ∙ ap (λ x. L.hold c.args.b x (ledger a d l)) held-is),
+          ∙ ap (L.passed q) (hold_right a d l c.args.b H ∙ ap (λ x. L.hold c.args.b x (ledger a d l)) held_is),
       λ n h. c.passed.ensures.1 n (hold_bounded h c.args.b H),
     )

@@ -29,11 +29,11 @@ unfolding F.along
 returns c =
     let p = c.requires in
     let s = p.1.1 in
-    let k-is =
+    let k_is =
     (λ i. back (as_it_is p.1.0 tt i +ℤ back_product s p.0.k_small tt tt tt i))
     ∙ as_it_is (small_add p.1.0 (small_mul s p.0.k_small)) tt in
     λ i. record {
-      k = k-is i;
+      k = k_is i;
       x =
           back_product s p.0.x0_small tt tt tt i ∷ back_product s p.0.x1_small tt tt tt i
           ∷ back_product s p.0.x2_small tt tt tt i ∷ back_product s p.0.x3_small tt tt tt i ∷ [];

@@ -1,7 +1,6 @@
 -- `forms::Form::below` meets its contract.
 use mathlib.Core.Path.{◌∙◌}
 use native.Mathlib.Omega.{arith}
-use borrow.Author.Rules.{rules}
 use lib.Signed.{lt_z}
 use mir.Syntax.{w64}
 use mir.Facts.{to_z_pos}
@@ -12,5 +11,5 @@ use Rattle.forms.proofs.Form.below.Goals as goal
 pub returns : goal.returns
 unfolding F.below
 returns c =
-    let top-is = as_returned {z = c.largest-top.result} c.largest-top.type_inv ∙ c.largest-top.ensures in
-    λ i. lt_z (top-is i) (to_z_pos w64 {n = c.args.n} (omega arith) i)
+    let top_is = as_returned {z = c.largest-top.result} c.largest-top.type_inv ∙ c.largest-top.ensures in
+    λ i. lt_z (top_is i) (to_z_pos w64 {n = c.args.n} (omega arith) i)

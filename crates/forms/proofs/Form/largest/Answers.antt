@@ -1,7 +1,6 @@
 -- `forms::Form::largest` meets its contract: the four largest terms and their sums fit.
 use mathlib.Core.Path.{◌≡◌, ap, ◌∙◌}
 use Prim.Native.Nat.{◌^◌}
-use borrow.Author.Rules.{rules}
 use lib.IntN.{◌+ℤ◌}
 use mir.Facts.{to_z-of_z}
 use Rattle.numbers.specs.Bounds.{Small}

@@ -1,6 +1,5 @@
 -- `forms::Form::moved_by` meets its contract.
 use mathlib.Core.Path.{◌∙◌}
-use borrow.Author.Rules.{rules}
 use Rattle.numbers.proofs.Signs.{small_back}
 use Rattle.forms.specs.Form as F
 use Rattle.forms.specs.Code.{form}
@@ -15,5 +14,5 @@ plus_times-k-requires c =
 pub returns : goal.returns
 unfolding F.moved_by
 returns c =
-    let k-is = plus_term c.args.level c.requires.0 c.requires.1 c.coefficient-x.ensures {r = c.plus_times-k.result} c.plus_times-k.type_inv c.plus_times-k.ensures in
-    c.with_k.ensures ∙ (λ i. record { k = k-is i; x = (form c.args.self).x })
+    let k_is = plus_term c.args.level c.requires.0 c.requires.1 c.coefficient-x.ensures {r = c.plus_times-k.result} c.plus_times-k.type_inv c.plus_times-k.ensures in
+    c.with_k.ensures ∙ (λ i. record { k = k_is i; x = (form c.args.self).x })

@@ -1,7 +1,6 @@
 -- `forms::Loops::deeper` meets its contract, level by level.
 use mathlib.Core.Path.{◌≡◌, refl}
 use native.Mathlib.Omega.{arith}
-use borrow.Author.Rules.{rules}
 use Rattle.forms.proofs.Loops.deeper.Goals as goal
 
 pub returns-in-0 : goal.returns-in-0

@@ -1,9 +1,6 @@
 -- `line::Text::decimal` meets its contract. The invariant: the digits of what is left go before the text to the same end, and there is room for them.
-use Prim.Native.Nat.{ℕ, suc, ◌≤◌}
-use mathlib.Core.Path.{◌≡◌, refl, sym, subst, ◌∙◌}
-use mathlib.Core.List.{List}
+use mathlib.Core.Path.{refl, sym, subst, ◌∙◌}
 use native.Mathlib.Omega.{arith}
-use Rattle.kernel.specs.Answers.{decimal}
 use Rattle.line.specs.View.{Shows}
 use Rattle.kernel.proofs.Digits.{digit}
 use Rattle.line.proofs.Digits.{Room, room_begins, room_less, next_digit}

@@ -1,11 +1,9 @@
 use Prim.Native.Nat.{ℕ, suc, ◌≤◌}
-use mathlib.Core.Path.{◌≡◌, refl, sym, subst, ◌∙◌}
+use mathlib.Core.Path.{◌≡◌}
 use mathlib.Core.List.{List}
-use native.Mathlib.Omega.{arith}
 use Rattle.kernel.specs.Answers.{decimal}
 use Rattle.line.specs.View.{Shows}
-use Rattle.kernel.proofs.Digits.{digit}
-use Rattle.line.proofs.Digits.{Room, room_begins, room_less, next_digit}
+use Rattle.line.proofs.Digits.{Room}
 use Rattle.line.proofs.Text.decimal.Given as goal
 
 abbrev pub invariant-loop-rest : goal.invariant-loop-rest

@@ -1,15 +1,6 @@
 -- `line::Text::number` meets its contract: the digits, and a space before them.
 use native.Mathlib.Omega.{arith}
-use borrow.Author.Rules.{rules}
 use Rattle.line.proofs.Text.number.Goals as goal
-
-pub decimal-t-requires : goal.decimal-t-requires
-decimal-t-requires c =
-    search rules
-
-pub byte-requires : goal.byte-requires
-byte-requires c =
-    search rules
 
 pub returns : goal.returns
 returns c =

@@ -1,9 +1,8 @@
 -- `line::Text::word` meets its contract. The invariant: the word from byte i on stands before what was there.
-use Prim.Native.Nat.{ℕ, ◌+◌, ◌≤◌}
 use mathlib.Core.Path.{◌≡◌, refl, sym, subst}
-use mathlib.Core.List.{List, ◌++◌}
+use mathlib.Core.List.{◌++◌}
 use native.Mathlib.Omega.{arith}
-use lib.ListN.{length, drop}
+use lib.ListN.{drop}
 use lib.Seq.{drop-length}
 use Rattle.line.specs.View.{Shows}
 use Rattle.line.proofs.Texts.{one_byte}

@@ -1,11 +1,8 @@
 use Prim.Native.Nat.{ℕ, ◌+◌, ◌≤◌}
-use mathlib.Core.Path.{◌≡◌, refl, sym, subst}
+use mathlib.Core.Path.{◌≡◌}
 use mathlib.Core.List.{List, ◌++◌}
-use native.Mathlib.Omega.{arith}
 use lib.ListN.{length, drop}
-use lib.Seq.{drop-length}
 use Rattle.line.specs.View.{Shows}
-use Rattle.line.proofs.Texts.{one_byte}
 use Rattle.line.proofs.Text.word.Given as goal
 
 abbrev pub invariant-loop-i : goal.invariant-loop-i
