@@ -1,7 +1,7 @@
 /* Shellquiver for C: the check of a kernel file, its two runs, laying out and putting back.
  *
  * Link with libplanner.a (x86-64, System V calls; `./quiver archive` makes it) and a C library, of which it uses
- * memcpy, memmove and memset. What a kernel file is and what each number means is fixed by docs/01-scope.md.
+ * memcpy and memset. What a kernel file is and what each number means is fixed by docs/01-scope.md.
  *
  * Areas. A memory is a row of signed 32-bit numbers: four bytes a number, low byte first, at any address. Each area is
  * given as a pointer and its length in bytes. The area that is written must not overlap the others, and nothing else may
