@@ -5,10 +5,8 @@ use mathlib.Core.Bool.{Bool}
 use mathlib.Core.List.{List, [], map}
 use native.Mathlib.Omega.{arith}
 use lib.IntN.{pos}
-use mir.Syntax.{w64}
-use mir.Val.{to_z}
-use mir.Facts.{to_z_pos}
 use lib.ListN.{length, get_or, take, drop, length-map}
+use Rattle.std.proofs.lemmas.List.{length-take}
 use lib.Seq.{length-take-le}
 use Rattle.numbers.specs.Lists.{alike}
 use Rattle.numbers.specs.Words.{words}
@@ -18,11 +16,11 @@ use Rattle.forms.specs.Code.{form}
 use Rattle.kernel.specs.File.{Rec, nothing, Kernel, count_of}
 use Rattle.kernel.specs.Check as Check
 use Rattle.kernel.proofs.Readable.{length_records}
-use Rattle.parts.specs.Arrays.{arrays_of, array_at, Arrays}
-use Rattle.parts.proofs.Arrays.{array_is, array_fits}
+use Rattle.parts.specs.Arrays.{arrays_of, array_at}
+use Rattle.parts.proofs.Arrays.{array_is}
 use Rattle.check_ledger.proofs.Rows.{view_at}
 use Rattle.kernel.specs.Ledger as L
-use Rattle.check_ledger.specs.View.{zero_form}
+use Rattle.check_ledger.specs.View.{no_form}
 
 abbrev pub counted : Rec → F.Form → Bool
 counted a f = F.same [] (F.constant (pos (count_of a))) f
@@ -38,17 +36,14 @@ module _ (file : List ℕ) (n : ℕ) (positions : List Form) where
   pub arrays_long : length (arrays_of file n) ≡ n
   arrays_long = length_records n (drop 3 (words file))
 
+  pub seen_few : length seen ≤ n
+  seen_few = omega (arith, length-map (take n positions) form, length-take n positions)
+
   pub seen_long : n ≤ length positions → length seen ≡ n
   seen_long h = length-map (take n positions) form ∙ length-take-le n positions h
 
-  module _ (j : ℕ) (h : j < n) (a : Arrays file n) where
-    -- a count is small, so that it stays itself in 64 bits
-    pub count_fits : (v : ℕ) → v ≡ count_of (array_at file j) → to_z w64 v ≡ pos v
-    count_fits v e =
-        let f = array_fits file n j h a in
-        to_z_pos w64 (omega (arith, e, f.counted, f.short))
-
-    -- the test at array j, as the code makes it, with no loop around
-    pub test_is : (v : ℕ) (f : Form) (around : List F.Loop) → v ≡ count_of (array_at file j) → form f ≡ F.constant (to_z w64 v) → around ≡ []
-        → F.same around (form f) (form (get_or positions j zero_form)) ≡ counted (get_or (arrays_of file n) j nothing) (get_or seen j (form zero_form))
-    test_is v f around e k o = λ i. F.same (o i) ((k ∙ ap F.constant (count_fits v e ∙ ap pos (e ∙ ap count_of (sym (array_is file n j h))))) i) (sym (view_at form n positions j zero_form h) i)
+  -- the test at array j, as the code makes it, with no loop around
+  module _ (j : ℕ) (h : j < n) where
+    pub test_is : (v : ℕ) (f : Form) (around : List F.Loop) → v ≡ count_of (array_at file j) → form f ≡ F.constant (pos v) → around ≡ []
+        → F.same around (form f) (form (get_or positions j no_form)) ≡ counted (get_or (arrays_of file n) j nothing) (get_or seen j (form no_form))
+    test_is v f around e k o = λ i. F.same (o i) ((k ∙ ap F.constant (ap pos (e ∙ ap count_of (sym (array_is file n j h))))) i) (sym (view_at form n positions j no_form h) i)

@@ -1,26 +1,30 @@
--- The answer of the code, seen as what the definition gives; and where the walk begins.
-use Rattle.std.specs.Prelude.{ℕ}
-use Rattle.kernel.specs.Reading.{fault}
+-- The answer of the code, seen as what the definition gives.
+use Rattle.std.specs.Prelude.{Result, Ok, Err}
+use Rattle.numbers.specs.Result as R
 use Rattle.kernel.specs.Check as Check
 use Rattle.kernel.specs.Answers as Answers
-use Rattle.check_take.specs.declared.Place.{Place}
+use Rattle.kernel.specs.Named.{misfit, unread}
+use Rattle.check_take.specs.declared.Refused as Walk
+use Rattle.check_take.specs.View as Take
 use Rattle.check_file.specs.declared.Refusal.{Refusal}
-use Rattle.check_file.specs.declared.Checked.{Checked}
-use Rattle.check_file.specs.declared.Checked.TheVariants.{Accepted, Unread, Refused}
+use Rattle.check_file.specs.declared.NotAccepted.{NotAccepted}
+use Rattle.check_file.specs.declared.NotAccepted.TheVariants.{Unread, Refused}
 
 -- a refusal by the same names
 abbrev pub refusal : Refusal → Check.Refusal
-refusal r = record { number = r.number; rule = r.rule; array = r.array; stream = r.stream }
+refusal r = record { number = misfit r.why; rule = r.rule; array = r.array; stream = r.stream }
 
-unfoldable pub answer : Checked → Answers.Checked
-answer Accepted = Answers.accepted
-answer (Unread number section place) = Answers.unread (fault number section place)
-answer (Refused r) = Answers.refused (refusal r)
+unfoldable pub answer : Result Unit NotAccepted → Answers.Checked
+answer (Ok t) = Answers.accepted
+answer (Err (Unread u)) = Answers.unread (unread u)
+answer (Err (Refused r)) = Answers.refused (refusal r)
 
--- of what stands at a place
-abbrev pub refusal_at : Place → (number : ℕ) → Refusal
-refusal_at at number = record { number = number; rule = at.rule; array = at.array; stream = at.stream }
+-- of a kernel that was read
+unfoldable pub verdict : Result Unit Refusal → Answers.Checked
+verdict (Ok t) = Answers.accepted
+verdict (Err r) = Answers.refused (refusal r)
 
--- before the first rule
-abbrev pub origin : Place
-origin = record { rule = 0; array = 0; stream = 0 }
+-- where the walk over it ends
+unfoldable pub ended : Result Unit Walk.Refused → R.Result Check.Refusal Unit
+ended (Ok t) = R.ok tt
+ended (Err e) = R.stop (Take.refusal e)

@@ -6,100 +6,109 @@ ghost use Rattle.kernel.specs.File as File;
 ghost use Rattle.kernel.specs.Ledger as L;
 ghost use Rattle.kernel.specs.Check as Check;
 ghost use Rattle.kernel.specs.Answers as Answers;
-ghost use Rattle.parts.specs.Parts.{kernel, ReadAs};
-ghost use Rattle.parts.specs.Arrays.{arrays_of, Arrays};
+ghost use Rattle.parts.specs.Arrays.{arrays_of};
 ghost use Rattle.check_ledger.specs.View.{positions_of};
-ghost use Rattle.check_file.specs.declared.Checked.TheVariants.{Refused};
-ghost use Rattle.check_file.specs.View.{answer, refusal_at, origin};
+ghost use Rattle.check_take.specs.View as Take;
+ghost use Rattle.check_take.specs.View.{held_by};
+ghost use Rattle.check_file.specs.declared.NotAccepted.TheVariants as N;
+ghost use Rattle.check_file.specs.View.{refusal, verdict, ended};
 ghost use Rattle.check_file.specs.Promises.{Checks};
 
-use check_ledger::Entries;
-use check_take::Place;
+use check_ledger::Ledger;
+use check_take::{Place, Refused};
 use forms::Form;
-use parts::Counts;
-use read_counts::Read;
+use kernel::refusals::{Misfit, Unread};
+use parts::{ArrayTable, Kernel};
 
-// A refusal by the check, at the next records of derivation, array program and stream program.
-#[derive(Clone, Copy)]
+// A refusal by the check: why, at the next records of derivation, array program and stream program.
+#[derive(Clone, Copy, Debug, PartialEq, Eq)]
 pub struct Refusal {
-    pub number: u8,
+    pub why: Misfit,
     pub rule: u16,
     pub array: u16,
     pub stream: u16,
 }
 
-#[derive(Clone, Copy)]
-pub enum Checked {
-    Accepted,
-    // number, section, record
-    Unread(u8, u8, u16),
+// Why a file is not accepted.
+#[derive(Clone, Copy, Debug, PartialEq, Eq)]
+pub enum NotAccepted {
+    Unread(Unread),
     Refused(Refusal),
 }
 
-// The refusal of what stands at a place.
-fn refused_at(at: Place, number: u8) -> Checked
-    requires { (at.rule < 2 ^ 16) × (at.array < 2 ^ 16) × (at.stream < 2 ^ 16) }
-    ensures { result ≡ Refused (refusal_at at number) }
-{
-    Checked::Refused(Refusal {
-        number,
-        rule: at.rule as u16,
-        array: at.array as u16,
-        stream: at.stream as u16,
-    })
+impl From<Unread> for NotAccepted {
+    ghost from_gives = { λ u e. e ≡ N.Unread u };
+
+    fn from(u: Unread) -> NotAccepted {
+        NotAccepted::Unread(u)
+    }
 }
 
-// Whether each of n positions is its array's count.
-fn all_counted(file: &[u8], n: usize, l: &Entries) -> bool
-    requires { Arrays file.now n }
-    ensures { (K : File.Kernel) (M : L.Ledger) → K.arrays ≡ arrays_of file.now n → M.positions ≡ positions_of n l.now → result ≡ Check.all_counted K M }
+impl From<Refusal> for NotAccepted {
+    ghost from_gives = { λ r e. e ≡ N.Refused r };
+
+    fn from(r: Refusal) -> NotAccepted {
+        NotAccepted::Refused(r)
+    }
+}
+
+// The refusal of what stands at a place.
+fn refused_at(r: Refused) -> Refusal
+    requires { (r.at.rule < 2 ^ 16) × (r.at.array < 2 ^ 16) × (r.at.stream < 2 ^ 16) }
+    ensures { refusal result ≡ Take.refusal r }
+{
+    Refusal {
+        why: r.misfit,
+        rule: r.at.rule as u16,
+        array: r.at.array as u16,
+        stream: r.at.stream as u16,
+    }
+}
+
+// Whether each array's position is its count.
+fn all_counted(arrays: ArrayTable, l: &Ledger) -> bool
+    ensures { (K : File.Kernel) (M : L.Ledger) → K.arrays ≡ arrays_of arrays.entry.file.now arrays.entry.count → M.positions ≡ positions_of arrays.entry.count l.now → result ≡ Check.all_counted K M }
 {
     let around = forms::outside();
-    let mut j = 0;
-    while j < n {
-        let count = parts::count_of(file, j) as i64;
-        let f = Form::constant(count);
-        let g = check_ledger::position(l, j);
-        if !f.same(g, around) {
+    for j in 0..arrays.count {
+        let count = Form::constant(i64::from(arrays.count_of(j)));
+        if !count.same(l.positions[j], around) {
             return false;
         }
-        j += 1;
     }
     true
 }
 
 // Before the first rule.
-fn beginning() -> Place
-    ensures { result ≡ origin }
+const BEGINNING: Place = Place {
+    rule: 0,
+    array: 0,
+    stream: 0,
+};
+
+// The walk from the first rule to the end of the derivation, then 19.
+fn walked(kernel: Kernel) -> Result<(), Refused>
+    ensures { ended result ≡ Check.check_kernel (held_by kernel.entry) }
 {
-    Place {
-        rule: 0,
-        array: 0,
-        stream: 0,
+    let mut l = Ledger::fresh();
+    let at = check_walk::check_block(kernel, BEGINNING, &mut l, forms::outside(), false)?;
+    at.need(Misfit::NotCounted, all_counted(kernel.arrays(), &l))
+}
+
+// The check of a kernel that was read.
+pub fn judged(kernel: Kernel) -> Result<(), Refusal>
+    ensures { verdict result ≡ Answers.checked (Check.check_kernel (held_by kernel.entry)) }
+{
+    match walked(kernel) {
+        Ok(()) => Ok(()),
+        Err(r) => Err(refused_at(r)),
     }
 }
 
-// The check of a kernel that was read: the walk, then 19.
-pub fn judged(file: &[u8], c: Counts) -> Checked
-    requires { ReadAs file.now c }
-    ensures { answer result ≡ Answers.checked (Check.check_kernel (kernel file.now c)) }
-{
-    let mut l = check_ledger::fresh();
-    let r = check_walk::check_block(file, c, beginning(), &mut l, forms::outside(), false);
-    if r.number != 0 {
-        return refused_at(r.at, r.number);
-    }
-    if !all_counted(file, c.a, &l) {
-        return refused_at(r.at, kernel::NOT_COUNTED);
-    }
-    Checked::Accepted
-}
-
-pub fn check(file: &[u8]) -> Checked
+pub fn check(file: &[u8]) -> Result<(), NotAccepted>
     ensures { Checks file.now result }
 {
-    match read_file::read(file) {
-        Read::Kernel(c) => judged(file, c),
-        Read::Refused(number, section, place) => Checked::Unread(number, section, place),
-    }
+    let kernel = read_file::read(file)?;
+    judged(kernel)?;
+    Ok(())
 }

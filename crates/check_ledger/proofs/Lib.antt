@@ -1,5 +1,4 @@
 pub mod Rows
-pub mod Entries
 pub mod Bounds
 pub mod Steps
 pub mod Loops

@@ -1,91 +1,70 @@
 -- Loops over rows of which the first n cells count, seen through a function: a test of two rows cell by cell, and a row written cell by cell.
 use Prim.Native.Nat.{ℕ, ◌+◌, ◌≤◌, ◌<◌}
-use mathlib.Core.Path.{◌≡◌, refl, sym, ap, ap₂, subst, ◌∙◌}
-use mathlib.Core.Bool.{Bool, true, false}
+use mathlib.Core.Path.{◌≡◌, refl, sym, ap, ◌∙◌}
+use mathlib.Core.Bool.{Bool, true, false, ◌&&◌}
 use mathlib.Core.List.{List, [], ◌∷◌, ◌++◌, map, map-append}
 use native.Mathlib.Omega.{arith}
 use native.Mathlib.Numerals.{add-one}
-use lib.ListN.{length, get_or, set, take, length-set, length-map}
+use lib.ListN.{length, get_or, set, take, length-map}
 use lib.Seq.{take-suc, take-suc-set, length-take-le}
+use denote.Param.Members.{Mut}
+use Rattle.std.proofs.Common.{Option, Bor, Iter}
+use Rattle.std.specs.declared.iter.Zip.{Zip}
+use Rattle.std.specs.Slice.Iter.{iter_rest}
+use Rattle.std.specs.Iterator.{YieldsThen}
+use Rattle.std.specs.Iterator.Adapters.{zip_first, zip_second}
+use Rattle.std.specs.Option.{MatchOption}
+use Rattle.std.specs.Fn.{Called}
+use Rattle.std.specs.List.{list_all, zip, FoldsTo}
+use Rattle.std.proofs.iter.Yields.{fronts}
+use Rattle.std.proofs.lemmas.Iterator.{zips, YieldsList-from_slice, YieldsList-from_zip}
+use Rattle.std.proofs.lemmas.Iterator.Search.{all_from_yields_List}
 use Rattle.numbers.specs.Lists.{alike}
-use Rattle.numbers.proofs.Rows as Cells
-use Rattle.check_ledger.proofs.Rows.{view_at}
 
 -- as long as what counts
 pub long_view : {A B : Type 0} (v : A → B) (n : ℕ) (p : List A) → n ≤ length p → length (map v (take n p)) ≡ n
 long_view v n p l = length-map (take n p) v ∙ length-take-le n p l
 
--- ---- a test: that of the whole is that of the cells from i on
+-- ---- two rows of one length, tested in pairs
 
-pub record Tested {A B : Type 0} (t : B → B → Bool) (v : A → B) (n : ℕ) (p q : List A) (i : ℕ) : Type 0 where
-  pub long_p : n ≤ length p
-  pub long_q : n ≤ length q
-  pub from_here : Cells.From t (map v (take n p)) (map v (take n q)) i
+pub zipped : {A B C : Type 0} (t : B → C → Bool) {D : Type 0} (v : A → B) (w : D → C) (xs : List A) (ys : List D) → length xs ≡ length ys → list_all (λ p. t (v p.0) (w p.1)) (zip xs ys) ≡ alike t (map v xs) (map w ys)
+unfolding alike
+zipped t v w [] [] e = refl
+zipped t v w [] (y ∷ ys) e = absurd (omega arith)
+zipped t v w (x ∷ xs) [] e = absurd (omega arith)
+zipped t v w (x ∷ xs) (y ∷ ys) e = ap (λ b. t (v x) (w y) && b) (zipped t v w xs ys (omega arith))
 
-module _ {A B : Type 0} {t : B → B → Bool} {v : A → B} {n : ℕ} {p q : List A} where
-  pub test_starts : n ≤ length p → n ≤ length q → Tested t v n p q 0
-  test_starts l m = record { long_p = l; long_q = m; from_here = refl }
-
-  module _ {i : ℕ} (T : Tested t v n p q i) where
-    module _ (d : A) (h : i < n) where
-      in_p : i < length (map v (take n p))
-      in_p = omega (arith, long_view v n p T.long_p, h)
-
-      in_q : i < length (map v (take n q))
-      in_q = omega (arith, long_view v n q T.long_q, h)
-
-      cells : t (get_or (map v (take n p)) i (v d)) (get_or (map v (take n q)) i (v d)) ≡ t (v (get_or p i d)) (v (get_or q i d))
-      cells = ap₂ t (view_at v n p i d h) (view_at v n q i d h)
-
-      pub test_goes_on : t (v (get_or p i d)) (v (get_or q i d)) ≡ true → Tested t v n p q (i + 1)
-      test_goes_on e =
-          record {
-            long_p = T.long_p;
-            long_q = T.long_q;
-            from_here = Cells.test_goes_on t (map v (take n p)) (map v (take n q)) i (v d) (v d) in_p in_q T.from_here (cells ∙ e);
-          }
-
-      pub test_fails : t (v (get_or p i d)) (v (get_or q i d)) ≡ false → alike t (map v (take n p)) (map v (take n q)) ≡ false
-      test_fails e = Cells.test_fails t (map v (take n p)) (map v (take n q)) i (v d) (v d) in_p in_q T.from_here (cells ∙ e)
-
-    pub test_passes : n ≤ i → alike t (map v (take n p)) (map v (take n q)) ≡ true
-    test_passes h =
-        Cells.test_passes t (map v (take n p)) (map v (take n q)) i (omega (arith, long_view v n p T.long_p, h)) (omega (arith, long_view v n q T.long_q, h))
-        T.from_here
+-- the chain that does so: `all` over both rows at once
+pub alike_by_all : {A B C D F : Type 0} {g : Mut F ((Bor A × Bor D) × Unit {0}) Bool} {f : F} {r : Bool} (s u : Zip (Iter A) (Iter D)) (t : B → C → Bool) (v : A → B) (w : D → C) (xs : List A) (ys : List D)
+    → length xs ≡ length ys → iter_rest (zip_first s) ≡ xs → iter_rest (zip_second s) ≡ ys
+    → (ps : List (Bor A × Bor D)) × (o : Option (Bor A × Bor D)) × (j : F) × YieldsThen (zips fronts fronts) s ps o u × FoldsTo (λ p x q. Called g p (x, tt) true q) f ps j
+    × MatchOption o (r ≡ true) (λ x. (r ≡ false) × ((h : F) × Called g j (x, tt) false h))
+    → ((x : Bor A × Bor D) (b : Bool) (q : F) → Called g f (x, tt) b q → (q ≡ f) × (b ≡ t (v x.0.now) (w x.1.now))) → r ≡ alike t (map v xs) (map w ys)
+alike_by_all s u t v w xs ys e a b ran k =
+    all_from_yields_List (λ p. t (v p.0) (w p.1)) u _ _ ran (YieldsList-from_zip {s = s} (YieldsList-from_slice xs a) (YieldsList-from_slice ys b)) k ∙ zipped t v w xs ys e
 
 -- ---- a row written: its first i cells are seen as the first i of a row that grows
 
 pub record Written {A B : Type 0} (v : A → B) (want : ℕ → List B) (n i : ℕ) (r : List A) : Type 0 where
   pub in_time : i ≤ n
-  pub long : n ≤ length r
   pub so_far : map v (take i r) ≡ want i
 
-pub written_starts : {A B : Type 0} {v : A → B} {want : ℕ → List B} {n : ℕ} {r : List A} → n ≤ length r → [] ≡ want 0 → Written v want n 0 r
-written_starts l e = record { in_time = omega arith; long = l; so_far = e }
+pub written_starts : {A B : Type 0} {v : A → B} {want : ℕ → List B} {n : ℕ} {r : List A} → [] ≡ want 0 → Written v want n 0 r
+written_starts e = record { in_time = omega arith; so_far = e }
 
 -- the first i + 1 cells
 pub view_more : {A B : Type 0} (v : A → B) (p : List A) (i : ℕ) (d : A) → i < length p → map v (take (i + 1) p) ≡ map v (take i p) ++ v (get_or p i d) ∷ []
 view_more v p i d h = ap (λ j. map v (take j p)) (add-one i) ∙ ap (map v) (take-suc p i d h) ∙ map-append v (take i p) (get_or p i d ∷ [])
 
 module _ {A B : Type 0} {v : A → B} {want : ℕ → List B} {n i : ℕ} {r : List A} (W : Written v want n i r) where
-  pub written_more : (x : A) → i < n → want (i + 1) ≡ want i ++ v x ∷ [] → Written v want n (i + 1) (set r i x)
-  written_more x h e =
+  pub written_more : (x : A) → i < n → i < length r → want (i + 1) ≡ want i ++ v x ∷ [] → Written v want n (i + 1) (set r i x)
+  written_more x h l e =
       record {
         in_time = omega arith;
-        long = simp length-set W.long;
         so_far =
             ap (λ j. map v (take j (set r i x))) (add-one i)
-            ∙ ap (map v) (take-suc-set r i x (omega (arith, W.long)))
+            ∙ ap (map v) (take-suc-set r i x l)
             ∙ map-append v (take i r) (x ∷ [])
             ∙ ap (λ l. l ++ v x ∷ []) W.so_far
             ∙ sym e;
       }
-
-  -- the same where the row is known by an equation
-  pub written_next : {s : List A} (x : A) → s ≡ set r i x → i < n → want (i + 1) ≡ want i ++ v x ∷ [] → Written v want n (i + 1) s
-  written_next x q h e = subst (Written v want n (i + 1)) (sym q) (written_more x h e)
-
-  pub written_all : n ≤ i → map v (take n r) ≡ want n
-  written_all h =
-      let e : i ≡ n = omega (arith, W.in_time) in
-      subst (λ j. map v (take j r) ≡ want j) e W.so_far

@@ -3,12 +3,19 @@ use Prim.Native.Nat.{ℕ, zero, suc, ◌≤◌, ◌<◌}
 use mathlib.Core.Path.{◌≡◌, refl, sym, ap, subst, ◌∙◌}
 use mathlib.Core.List.{List, [], ◌∷◌, map}
 use native.Mathlib.Omega.{arith}
-use lib.ListN.{get_or, set, take, replicate, get_or-map}
+use lib.ListN.{length, get_or, set, take, replicate, get_or-map}
 use lib.Seq.{get_or-take}
 
 module _ {A B : Type 0} (v : A → B) where
   pub view_at : (n : ℕ) (l : List A) (i : ℕ) (d : A) → i < n → get_or (map v (take n l)) i (v d) ≡ v (get_or l i d)
   view_at n l i d h = get_or-map v (take n l) i d ∙ ap v (get_or-take n l i d h)
+
+  -- a cell that is there, whatever stands past the end
+  pub view_within : (n : ℕ) (l : List A) (i : ℕ) (d : A) (e : B) → i < n → i < length l → get_or (map v (take n l)) i e ≡ v (get_or l i d)
+  view_within zero l i d e h k = absurd (omega arith)
+  view_within (suc n) [] i d e h k = absurd (omega arith)
+  view_within (suc n) (y ∷ l) zero d e h k = refl
+  view_within (suc n) (y ∷ l) (suc i) d e h k = view_within n l i d e (omega arith) (omega arith)
 
   pub view_set : (n : ℕ) (l : List A) (i : ℕ) (x : A) → map v (take n (set l i x)) ≡ set (map v (take n l)) i (v x)
   view_set zero l i x = refl
@@ -33,9 +40,6 @@ module _ {A : Type 0} (P : A → Type 0) where
   -- the same of a row that is known by an equation
   pub all_same : {l r : List A} (d : A) → r ≡ l → ((j : ℕ) → P (get_or l j d)) → (j : ℕ) → P (get_or r j d)
   all_same d e h j = subst (λ l. P (get_or l j d)) (sym e) (h j)
-
-  pub all_put : (l : List A) (i : ℕ) {r : List A} {x d : A} → r ≡ set l i x → P d → ((j : ℕ) → P (get_or l j d)) → P x → (j : ℕ) → P (get_or r j d)
-  all_put l i {x = x} {d} e past h new = all_same d e (all_set l i x d past h new)
 
   pub all_alike : (n : ℕ) (x d : A) → P d → P x → (j : ℕ) → P (get_or (replicate n x) j d)
   all_alike zero x d past new j = past

@@ -1,81 +1,44 @@
--- Whether a number stands for nothing; a buffer row against a buffer; and what both branches have, cell by cell.
-use Prim.Native.Nat.{ℕ, zero, suc, ◌+◌, ◌^◌, ◌≤◌, ◌<◌}
-use mathlib.Core.Path.{◌≡◌, refl, sym, ap, ap₂, subst, ◌∙◌}
-use mathlib.Core.Bool.{true, false, cond, ◌&&◌, false≢true}
+-- Whether a row states what a buffer holds; what both branches have, cell by cell; and the positions of one ledger taken by another.
+use Prim.Native.Nat.{ℕ, ◌+◌, ◌≤◌, ◌<◌}
+use mathlib.Core.Path.{◌≡◌, refl, sym, ap, ap₂, ◌∙◌}
+use mathlib.Core.Bool.{Bool, true, false, cond}
 use mathlib.Core.List.{List, [], ◌∷◌, ◌++◌, map}
-use mathlib.Core.Option.{Option, none, some}
+use mathlib.Core.Option as Math
 use native.Mathlib.Omega.{arith}
 use lib.ListN.{length, get_or, set, take}
-use lib.IntN.{ℤ, pos, negsuc}
-use lib.Signed.{le_z}
 use lib.Seq.{get_or-set_other}
-use mir.Syntax.{w64}
-use mir.Val.{SFits}
-use mir.Facts.{to_z-of_z}
-use borrow.Author.Tests.{eq-eqb, ne_eqb, lt-leb}
-use Rattle.numbers.proofs.Signs.{back}
+use Rattle.std.proofs.Common.{Option, Some, None}
+use Rattle.std.specs.Bool.{then_some}
+use Rattle.std.specs.Option.{MatchOption}
 use Rattle.forms.specs.Form as F
-use Rattle.forms.specs.Code.{form, Within}
-use Rattle.forms.specs.declared.Form.{Form}
+use Rattle.forms.specs.Code.{form}
 use Rattle.kernel.specs.Ledger as L
 use Rattle.check_ledger.specs.declared.Held.{Held}
-use Rattle.check_ledger.specs.View.{Whole, positions, buffers, numbered, held, ledger, zero_form, nothing, Positioned, Holding, Bounded, Took, Kept}
-use Rattle.check_ledger.proofs.Entries.{positions_long, buffers_long}
-use Rattle.check_ledger.proofs.Bounds.{bounded_same, put_bounded}
-use Rattle.check_ledger.proofs.Loops.{Written, long_view, written_starts, view_more, written_next, written_all}
+use Rattle.check_ledger.specs.declared.Ledger.{Ledger}
+use Rattle.check_ledger.specs.View.{content, held, ledger, Bounded, Took, Kept}
+use Rattle.check_ledger.proofs.Bounds.{bounded_same}
+use Rattle.check_ledger.proofs.Loops.{Written, long_view, written_starts, view_more, written_more}
 
--- ---- a number not above 0 is nothing, one above 0 is something
-
--- a field's test is one of its bits
-pub same_test : (z : ℤ) → SFits w64 z → le_z z (pos 0) ≡ le_z (back z) (pos 0)
-same_test z h = ap (λ z. le_z z (pos 0)) (sym (to_z-of_z h))
-
-pub numbered_nothing : (n : ℤ) (f : Form) → le_z n (pos 0) ≡ true → numbered n f ≡ none
-unfolding numbered
-numbered_nothing (pos zero) f e = refl
-numbered_nothing (pos (suc n)) f e = absurd (false≢true (sym (lt-leb (suc n) 0 (omega arith)) ∙ e))
-numbered_nothing (negsuc n) f e = refl
-
-pub above_zero : (n : ℤ) → le_z n (pos 0) ≡ false → (q : ℕ) × (n ≡ pos (suc q))
-above_zero (pos zero) e = absurd (false≢true (sym e))
-above_zero (pos (suc q)) e = (q, refl)
-above_zero (negsuc n) e = absurd (false≢true (sym e))
-
--- ---- a buffer row against a buffer
+-- ---- a buffer row against a buffer, and what both branches have
 
 module _ (around : List F.Loop) where
-  pub row_differs : (n m : ℤ) (f g : Form) → le_z n (pos 0) ≡ false → (n ≡ m → ⊥) → L.row_true around (numbered n f) (numbered m g) ≡ false
-  unfolding numbered L.row_true L.holds_just
-  row_differs (pos zero) m f g z d = absurd (false≢true (sym z))
-  row_differs (negsuc n) m f g z d = absurd (false≢true (sym z))
-  row_differs (pos (suc n)) (pos zero) f g z d = refl
-  row_differs (pos (suc n)) (negsuc m) f g z d = refl
-  row_differs (pos (suc n)) (pos (suc m)) f g z d = ap (λ b. b && F.same around (form f) (form g)) (ne_eqb n m (λ e. d (ap (λ k. pos (suc k)) e)))
+  pub row_true_by : (row buffer : Option Held) (r : Bool) {Q : Held → Type 0} → MatchOption row (r ≡ true) Q → ((h : Held) → Q h → r ≡ L.holds_just around (content h) (held buffer)) → r ≡ L.row_true around (held row) (held buffer)
+  unfolding L.row_true held
+  row_true_by None buffer r e f = e
+  row_true_by (Some h) buffer r q f = f h q
 
-  pub row_same : (n m : ℤ) (f g : Form) → le_z n (pos 0) ≡ false → n ≡ m → L.row_true around (numbered n f) (numbered m g) ≡ F.same around (form f) (form g)
-  unfolding numbered L.row_true L.holds_just
-  row_same n m f g z e =
-      let s = above_zero n z in
-      (λ i. L.row_true around (numbered (s.1 i) f) (numbered ((sym e ∙ s.1) i) g)) ∙ ap (λ b. b && F.same around (form f) (form g)) (eq-eqb s.0 s.0 refl)
-
--- ---- what both branches have
-
-module _ (around : List F.Loop) where
-  pub kept_both : (h g : Option L.Held) → L.row_true around h g ≡ true → h ≡ L.kept around h g
-  unfolding L.kept L.row_true
-  kept_both none g e = refl
-  kept_both (some h) g e = sym (ap (λ b. cond b (some h) none) e)
-
-  pub kept_not : (h g : Option L.Held) → L.row_true around h g ≡ false → none ≡ L.kept around h g
-  unfolding L.kept L.row_true
-  kept_not none g e = refl
-  kept_not (some h) g e = sym (ap (λ b. cond b (some h) none) e)
+  pub kept_by : (first second r : Option Held) {Q : Held → Bool → Type 0} → MatchOption first (r ≡ None) (λ h. (b : Bool) × Q h b × (r ≡ then_some b h))
+      → ((h : Held) (b : Bool) → Q h b → b ≡ L.holds_just around (content h) (held second)) → held r ≡ L.kept around (held first) (held second)
+  unfolding L.kept held
+  kept_by None second r e f = ap held e
+  kept_by (Some h) second r (true, q, is) f = ap held is ∙ ap (λ b. cond b (Math.some (content h)) Math.none) (f h true q)
+  kept_by (Some h) second r (false, q, is) f = ap held is ∙ ap (λ b. cond b (Math.some (content h)) Math.none) (f h false q)
 
   -- of the first i buffers
-  abbrev pub kept_of : (p q : List Held) → ℕ → List (Option L.Held)
+  abbrev pub kept_of : (p q : List (Option Held)) → ℕ → List (Math.Option L.Held)
   kept_of p q i = L.kept_all around (map held (take i p)) (map held (take i q))
 
-  kept_append : (hs gs : List (Option L.Held)) (h g : Option L.Held) → length hs ≡ length gs
+  kept_append : (hs gs : List (Math.Option L.Held)) (h g : Math.Option L.Held) → length hs ≡ length gs
       → L.kept_all around (hs ++ h ∷ []) (gs ++ g ∷ []) ≡ L.kept_all around hs gs ++ L.kept around h g ∷ []
   unfolding L.kept_all
   kept_append [] [] h g e = refl
@@ -83,76 +46,45 @@ module _ (around : List F.Loop) where
   kept_append (x ∷ hs) [] h g e = absurd (omega arith)
   kept_append (x ∷ hs) (y ∷ gs) h g e = ap (λ l. L.kept around x y ∷ l) (kept_append hs gs h g (omega arith))
 
-  pub kept_more : (p q : List Held) {r s : List Held} {n i : ℕ} (x : Held) → n ≤ length p → n ≤ length q → i < n
-      → held x ≡ L.kept around (held (get_or p i nothing)) (held (get_or q i nothing)) → Written held (kept_of p q) n i r → s ≡ set r i x → Written held (kept_of p q) n (i + 1) s
-  kept_more p q {i = i} x l m h e W is =
-      written_next W x is h
-      (ap₂ (L.kept_all around) (view_more held p i nothing (omega arith)) (view_more held q i nothing (omega arith))
-      ∙ kept_append (map held (take i p)) (map held (take i q)) (held (get_or p i nothing)) (held (get_or q i nothing)) (long_view held i p (omega arith) ∙ sym (long_view held i q (omega arith)))
+  pub kept_more : (p q : List (Option Held)) {r : List (Option Held)} {n i : ℕ} (x : Option Held) → n ≤ length p → n ≤ length q → i < n → i < length r
+      → held x ≡ L.kept around (held (get_or p i None)) (held (get_or q i None)) → Written held (kept_of p q) n i r → Written held (kept_of p q) n (i + 1) (set r i x)
+  kept_more p q {i = i} x l m h g e W =
+      written_more W x h g
+      (ap₂ (L.kept_all around) (view_more held p i None (omega arith)) (view_more held q i None (omega arith))
+      ∙ kept_append (map held (take i p)) (map held (take i q)) (held (get_or p i None)) (held (get_or q i None)) (long_view held i p (omega arith) ∙ sym (long_view held i q (omega arith)))
       ∙ ap (λ y. kept_of p q i ++ y ∷ []) (sym e))
 
 -- ---- the loop over the buffers of both branches: the first i of r are what both have, the others still those of the second
 
-pub record Keeping (around : List F.Loop) (first l : List ℤ) (b i : ℕ) (r : List ℤ) : Type 0 where
-  pub whole : Whole r
-  pub positions_are : positions r ≡ positions l
-  pub written : Written held (kept_of around (buffers first) (buffers l)) b i (buffers r)
-  pub rest : (j : ℕ) → i ≤ j → get_or (buffers r) j nothing ≡ get_or (buffers l) j nothing
+pub record Keeping (around : List F.Loop) (first l : Ledger) (b i : ℕ) (r : Ledger) : Type 0 where
+  pub positions_are : r.positions ≡ l.positions
+  pub written : Written held (kept_of around first.buffers l.buffers) b i r.buffers
+  pub rest : (j : ℕ) → i ≤ j → get_or r.buffers j None ≡ get_or l.buffers j None
 
-module _ {around : List F.Loop} {first l : List ℤ} {b : ℕ} (few : b ≤ 16) where
-  pub keep_starts : Whole l → Keeping around first l b 0 l
+module _ {around : List F.Loop} {first l : Ledger} {b : ℕ} where
+  pub keep_starts : Keeping around first l b 0 l
   unfolding L.kept_all
-  keep_starts w = record { whole = w; positions_are = refl; written = written_starts (omega (arith, few, buffers_long l)) refl; rest = λ j h. refl }
+  keep_starts = record { positions_are = refl; written = written_starts refl; rest = λ j h. refl }
 
-  module _ {i : ℕ} {r : List ℤ} (M : Keeping around first l b i r) where
-    pub keep_more : {x : Held} {r' : List ℤ} → i < b → held x ≡ L.kept around (held (get_or (buffers first) i nothing)) (held (get_or (buffers r) i nothing)) → Holding i x r r' → Keeping around first l b (i + 1) r'
-    keep_more {x} {r'} h e H =
+  module _ {i : ℕ} {r : Ledger} (M : Keeping around first l b i r) where
+    pub keep_more : (x : Option Held) → b ≤ length first.buffers → b ≤ length l.buffers → i < b → i < length r.buffers → held x ≡ L.kept around (held (get_or first.buffers i None)) (held (get_or r.buffers i None))
+        → Keeping around first l b (i + 1) (record { positions = r.positions; buffers = set r.buffers i x })
+    keep_more x few few' h g e =
         record {
-          whole = H.whole;
-          positions_are = H.positions_are ∙ M.positions_are;
-          written =
-              kept_more around (buffers first) (buffers l) x (omega (arith, few, buffers_long first)) (omega (arith, few, buffers_long l)) h
-              (e ∙ ap (λ y. L.kept around (held (get_or (buffers first) i nothing)) (held y)) (M.rest i (omega arith))) M.written H.buffers_are;
-          rest = λ j k. ap (λ bs. get_or bs j nothing) H.buffers_are ∙ get_or-set_other (buffers r) i j x nothing (λ q. omega (arith, k, q)) ∙ M.rest j (omega arith);
+          positions_are = M.positions_are;
+          written = kept_more around first.buffers l.buffers x few few' h g (e ∙ ap (λ y. L.kept around (held (get_or first.buffers i None)) (held y)) (M.rest i (omega arith))) M.written;
+          rest = λ j k. get_or-set_other r.buffers i j x None (λ q. omega (arith, k, q)) ∙ M.rest j (omega arith);
         }
-
-    pub keep_all : b ≤ i → Kept b around first l r
-    keep_all h = record { whole = M.whole; positions_are = M.positions_are; buffers_are = written_all M.written h }
-
--- ---- the loop over the positions: the first i of r are those of another ledger
-
-pub record Taking (from l : List ℤ) (a i : ℕ) (r : List ℤ) : Type 0 where
-  pub written : Written form (λ i. map form (take i (positions from))) a i (positions r)
-  pub whole : Whole r
-  pub buffers_are : buffers r ≡ buffers l
-  pub bounded : (n : ℕ) → Bounded n from → Bounded n l → Bounded n r
-
-module _ {from l : List ℤ} {a : ℕ} (few : a ≤ 8) where
-  pub take_starts : Whole l → Taking from l a 0 l
-  take_starts w = record { written = written_starts (omega (arith, few, positions_long l)) refl; whole = w; buffers_are = refl; bounded = λ n f h. h }
-
-  module _ {i : ℕ} {r : List ℤ} (T : Taking from l a i r) where
-    pub take_more : {f : Form} {r' : List ℤ} → i < a → f ≡ get_or (positions from) i zero_form → Positioned i f r r' → Taking from l a (i + 1) r'
-    take_more {f} h e P =
-        record {
-          written = written_next T.written f P.positions_are h (view_more form (positions from) i zero_form (omega (arith, few, positions_long from)) ∙ ap (λ g. map form (take i (positions from)) ++ form g ∷ []) (sym e));
-          whole = P.whole;
-          buffers_are = P.buffers_are ∙ T.buffers_are;
-          bounded = λ n b k. put_bounded (T.bounded n b k) i P (subst (Within (2 ^ 37 + n) (2 ^ 20)) (sym e) (b.at_position i));
-        }
-
-    pub take_all : a ≤ i → Took a from l r
-    take_all h = record { whole = T.whole; positions_are = written_all T.written h; buffers_are = T.buffers_are; bounded = T.bounded }
 
 -- ---- both
 
-module _ {around : List F.Loop} {a b : ℕ} {first l m r : List ℤ} (T : Took a first l m) (M : Kept b around first m r) where
+module _ {around : List F.Loop} {a b : ℕ} {first l m r : Ledger} (T : Took a first l m) (M : Kept b around first m r) where
   pub merged_right : ledger a b r ≡ L.merged around (ledger a b first) (ledger a b l)
   unfolding ledger L.merged
   merged_right = λ t. record {
     positions = (ap (λ ps. map form (take a ps)) M.positions_are ∙ T.positions_are) t;
-    buffers = (M.buffers_are ∙ ap (λ bs. L.kept_all around (map held (take b (buffers first))) (map held (take b bs))) T.buffers_are) t;
+    buffers = (M.buffers_are ∙ ap (λ bs. L.kept_all around (map held (take b first.buffers)) (map held (take b bs))) T.buffers_are) t;
   }
 
   pub merged_bounded : {n : ℕ} → Bounded n first → Bounded n l → Bounded n r
-  merged_bounded {n} f h = bounded_same (T.bounded n f h) M.whole M.positions_are
+  merged_bounded {n} f h = bounded_same (T.bounded n f h) M.positions_are

@@ -1,11 +1,14 @@
 -- Hold rows in order: row after row, and as a part of the derivation.
-use Prim.Native.Nat.{ℕ, zero, suc, ◌+◌, ◌-◌, ◌≤◌, ◌<◌}
+use Prim.Native.Nat.{ℕ, zero, suc, ◌+◌, ◌≤◌, ◌<◌}
 use mathlib.Core.Path.{◌≡◌, refl, sym, ap, ap₂, ◌∙◌}
-use mathlib.Core.Bool.{Bool, true, false, ◌&&◌}
+use mathlib.Core.Bool.{Bool, ◌&&◌}
 use mathlib.Core.List.{List, [], ◌∷◌}
 use native.Mathlib.Omega.{arith}
 use native.Mathlib.Nat.{le_refl}
-use lib.Dec.{eqb}
+use lib.Dec.{eqb, ltb}
+use native.Mathlib.Decide.{dec_lt}
+use borrow.Author.Tests.{lt-ltb, le-ltb}
+use Rattle.std.specs.List.{list_all, range_with_len}
 use lib.ListN.{length, get_or, take, drop, drop_of_length-le}
 use lib.Seq.{take-nil, drop-drop}
 use Rattle.numbers.proofs.Rows.{drop_there}
@@ -19,40 +22,28 @@ use Rattle.check_rows.specs.View.{rows_fit_from}
 abbrev pub row : (code level m : ℕ) → Rec → Bool
 row code level m r = eqb r.code code && eqb r.p m && around level (form r)
 
--- ---- row after row: m of n rows are done
+-- ---- row after row, from the m-th on
 
-module _ (code level n : ℕ) (rs : List Rec) (from : ℕ) where
-  abbrev pub left : ℕ → Bool
-  left m = in_order code level m (n - m) (drop (from + m) rs)
+module _ (code level : ℕ) (rs : List Rec) (from count : ℕ) where
+  abbrev pub stands : ℕ → Bool
+  stands m = ltb (from + m) count && row code level m (get_or rs (from + m) nothing)
 
-  pub at_first : in_order code level 0 n (drop from rs) ≡ left 0
-  at_first =
-      let e : n ≡ n - 0 = omega arith in
-      let f : from ≡ from + 0 = omega arith in
-      λ i. in_order code level 0 (e i) (drop (f i) rs)
-
-  pub at_last : (m : ℕ) → n ≤ m → left m ≡ true
+  pub in_order_by : length rs ≡ count → (n m : ℕ) → list_all stands (range_with_len m n) ≡ in_order code level m n (drop (from + m) rs)
   unfolding in_order
-  at_last m h =
-      let e : n - m ≡ 0 = omega arith in
-      ap (λ k. in_order code level m k (drop (from + m) rs)) e
-
-  module _ (m : ℕ) (h : m < n) where
-    one_less : n - m ≡ suc (n - (m + 1))
-    one_less = omega arith
-
-    pub past_end : length rs ≤ from + m → left m ≡ false
-    unfolding in_order
-    past_end l = ap (in_order code level m (n - m)) (drop_of_length-le rs {i = from + m} l) ∙ ap (λ k. in_order code level m k []) one_less
-
-    pub at_row : from + m < length rs → (r : Rec) → r ≡ get_or rs (from + m) nothing → left m ≡ row code level m r && left (m + 1)
-    unfolding in_order
-    at_row l r e =
-        let f : suc m ≡ m + 1 = omega arith in
-        let g : from + m + 1 ≡ from + (m + 1) = omega arith in
-        ap (in_order code level m (n - m)) (drop_there rs (from + m) nothing l ∙ (λ i. sym e i ∷ drop (g i) rs))
-        ∙ ap (λ k. in_order code level m k (r ∷ drop (from + (m + 1)) rs)) one_less
-        ∙ ap (λ k. row code level m r && in_order code level k (n - (m + 1)) (drop (from + (m + 1)) rs)) f
+  in_order_by e zero m = refl
+  in_order_by e (suc n) m = ap (λ b. stands m && b) (in_order_by e n (m + 1)) ∙ by (dec_lt (from + m) (length rs))
+    where
+      by : Dec (from + m < length rs) → stands m && in_order code level (m + 1) n (drop (from + (m + 1)) rs) ≡ in_order code level m (suc n) (drop (from + m) rs)
+      by (yes h) =
+          let f : m + 1 ≡ suc m = omega arith in
+          let g : from + (m + 1) ≡ from + m + 1 = omega arith in
+          ap (λ b. b && row code level m (get_or rs (from + m) nothing) && in_order code level (m + 1) n (drop (from + (m + 1)) rs)) (lt-ltb _ _ (omega (arith, e, h)))
+          ∙ (λ i. row code level m (get_or rs (from + m) nothing) && in_order code level (f i) n (drop (g i) rs))
+          ∙ ap (in_order code level m (suc n)) (sym (drop_there rs (from + m) nothing h))
+      by (no h) =
+          let past : length rs ≤ from + m = omega arith in
+          ap (λ b. b && row code level m (get_or rs (from + m) nothing) && in_order code level (m + 1) n (drop (from + (m + 1)) rs)) (le-ltb _ _ (omega (arith, e, past)))
+          ∙ ap (in_order code level m (suc n)) (sym (drop_of_length-le rs {i = from + m} past))
 
 -- ---- a part of the derivation
 

@@ -1,106 +1,88 @@
 -- Rows of a derivation, one after another, as the ledger that they state.
 use Prim.Native.Nat.{ℕ, suc, ◌+◌, ◌^◌, ◌≤◌, ◌<◌}
-use mathlib.Core.Path.{◌≡◌, refl, sym, ap, subst, ◌∙◌}
-use mathlib.Core.Bool.{Bool, cond}
+use mathlib.Core.Path.{◌≡◌, sym, ap, subst, ◌∙◌}
+use mathlib.Core.Bool.{Bool, true, false, cond}
 use mathlib.Core.List.{List, [], ◌∷◌, ◌++◌, map}
 use mathlib.Core.Option.{none, some}
 use native.Mathlib.Omega.{arith}
 use native.Mathlib.Numerals.{add-one}
 use lib.ListN.{length, get_or, set, take, drop, length-drop}
+use lib.Dec.{eqb}
 use lib.Seq.{get_or-drop, take-take, drop-drop}
-use lib.IntN.{ℤ, pos}
+use Rattle.std.proofs.Common.{Option, Some, None}
 use borrow.Author.Tests.{eq-eqb, ne_eqb}
+use Rattle.forms.specs.Form as F
 use Rattle.forms.specs.Code.{form, Within}
 use Rattle.forms.specs.declared.Form.{Form}
 use Rattle.kernel.specs.File as File
 use Rattle.kernel.specs.File.{Rec, nothing, Kernel}
+use Rattle.kernel.specs.Guarantees.{FormSmall}
 use Rattle.kernel.specs.Reading.{minus_one}
 use Rattle.kernel.specs.Ledger as L
 use Rattle.kernel.specs.Derivation as Derivation
-use Rattle.kernel.specs.Derivation.{row_held, row_count, hold_rows, stated}
-use Rattle.parts.specs.declared.Part.{Part}
-use Rattle.parts.specs.Parts.{records_in}
+use Rattle.parts.specs.declared.RecordTable.{RecordTable}
+use Rattle.parts.specs.Tables.{rows}
 use Rattle.parts.proofs.Records.{count_is}
+use Rattle.kernel.specs.Derivation.{row_held, row_count, hold_rows, stated}
 use Rattle.check_ledger.specs.declared.Held.{Held}
-use Rattle.check_ledger.specs.View as View
-use Rattle.check_ledger.specs.View.{zeros, entry, from, positions, buffers, numbered, zero_form, Positioned, Holding}
-use Rattle.check_ledger.proofs.Rows.{all_same, all_put, all_alike}
-use Rattle.check_ledger.proofs.Bounds.{zero_within, within_seen}
-use Rattle.check_ledger.proofs.Loops.{Written, view_more, written_next}
+use Rattle.check_ledger.specs.View.{held, no_form}
+use Rattle.check_ledger.proofs.Rows.{all_set}
+use Rattle.check_ledger.proofs.Bounds.{none_within, within_seen}
+use Rattle.check_ledger.proofs.Loops.{Written, view_more, written_more}
 use Rattle.check_rows.proofs.Rows.{drop_take}
 use Rattle.check_rows.specs.View.{SmallForms}
-use Rattle.check_rows.specs.Changes.{Stated}
+use Rattle.check_rows.specs.Changes.{SmallHeld}
 
 -- ---- one buffer row
 
-module _ (r : Rec) (g : Form) (e : form g ≡ File.form r) where
-  pub states_nothing : r.q ≡ minus_one → numbered (pos 0) g ≡ row_held r
-  unfolding numbered row_held
-  states_nothing h = sym (ap (λ (t : Bool). cond t none (some (L.held r.q (File.form r)))) (eq-eqb r.q minus_one h))
+module _ (r : Rec) (h : Held) (e : form h.index ≡ File.form r) (q : h.array ≡ r.q) where
+  pub states_something : (r.q ≡ minus_one → ⊥) → held (Some h) ≡ row_held r
+  unfolding held row_held
+  states_something n = (λ i. some (L.held (q i) (e i))) ∙ sym (ap (λ (t : Bool). cond t none (some (L.held r.q (File.form r)))) (ne_eqb r.q minus_one n))
 
-  pub states_something : (r.q ≡ minus_one → ⊥) → numbered (pos (r.q + 1)) g ≡ row_held r
-  unfolding numbered row_held
-  states_something h =
-      ap (λ k. numbered (pos k) g) (add-one r.q)
-      ∙ ap (λ f. some (L.held r.q f)) e
-      ∙ sym (ap (λ (t : Bool). cond t none (some (L.held r.q (File.form r)))) (ne_eqb r.q minus_one h))
+pub states_nothing : (r : Rec) → r.q ≡ minus_one → held None ≡ row_held r
+unfolding held row_held
+states_nothing r h = sym (ap (λ (t : Bool). cond t none (some (L.held r.q (File.form r)))) (eq-eqb r.q minus_one h))
+
+none_small : SmallHeld None
+none_small h e = absurd (cc)
+
+-- a form as small as a record's
+pub form_small : {f : Form} {g : F.Form} → form f ≡ g → FormSmall g → Within (2 ^ 20) (2 ^ 20) f
+form_small e m = within_seen e (record { abs = m.k_small }) (λ level. record { abs = m.x_small level })
+
+pub held_small : (h : Option Held) (r : Rec) → held h ≡ row_held r → FormSmall (File.form r) → SmallHeld h
+unfolding held row_held
+held_small None r e m = none_small
+held_small (Some h) r e m = by (eqb r.q minus_one) e
+  where
+    by : (t : Bool) → some (L.held h.array (form h.index)) ≡ cond t none (some (L.held r.q (File.form r))) → SmallHeld (Some h)
+    by true e g is = absurd (cc)
+    by false e g is = let same : form g.index ≡ File.form r = cc in form_small same m
 
 -- ---- row i of n from record `at` on
 
-module _ (file : List ℕ) (part : Part) (at i : ℕ) {r : Rec} (e : r ≡ get_or (records_in file part) (at + i) nothing) where
+module _ (t : RecordTable) (at i : ℕ) {r : Rec} (e : r ≡ get_or (rows t) (at + i) nothing) where
   -- what the first i rows state is written, and what this one does
-  pub row_written : {A B : Type 0} {v : A → B} (w : Rec → B) {n : ℕ} {p s : List A} (x : A) → at + n ≤ part.count → i < n → v x ≡ w r
-      → Written v (λ i. map w (take i (drop at (records_in file part)))) n i p → s ≡ set p i x → Written v (λ i. map w (take i (drop at (records_in file part)))) n (i + 1) s
-  row_written w x there h s W is =
-      let rs = records_in file part in
-      written_next W x is h
-      (view_more w (drop at rs) i nothing (omega (arith, length-drop at rs, count_is file part))
+  pub row_written : {A B : Type 0} {v : A → B} (w : Rec → B) {n : ℕ} {p : List A} (x : A) → at + n ≤ t.part.count → i < n → i < length p → v x ≡ w r
+      → Written v (λ i. map w (take i (drop at (rows t)))) n i p → Written v (λ i. map w (take i (drop at (rows t)))) n (i + 1) (set p i x)
+  row_written w x there h g s W =
+      let rs = rows t in
+      written_more W x h g
+      (view_more w (drop at rs) i nothing (omega (arith, length-drop at rs, count_is t.file.now t.part))
       ∙ ap (λ y. map w (take i (drop at rs)) ++ y ∷ []) (ap w (get_or-drop at rs i nothing ∙ sym e) ∙ sym s))
 
   -- its form is small
-  pub small_form : {f : Form} → SmallForms (records_in file part) → form f ≡ File.form r → Within (2 ^ 20) (2 ^ 20) f
-  small_form s g =
-      let m = s.at_record (at + i) in
-      within_seen (g ∙ ap File.form e) (record { abs = m.k_small }) (λ level. record { abs = m.x_small level })
+  pub row_small : SmallForms (rows t) → FormSmall (File.form r)
+  row_small s = subst (λ r. FormSmall (File.form r)) (sym e) (s.at_record (at + i))
 
--- ---- a ledger whose forms are small
+-- ---- rows whose forms are small
 
-abbrev SmallIndex : Held → Type 0
-SmallIndex h = Within (2 ^ 20) (2 ^ 20) h.index
+pub position_put : (l : List Form) (q : ℕ) (f : Form) → Within (2 ^ 20) (2 ^ 20) f → ((q : ℕ) → Within (2 ^ 20) (2 ^ 20) (get_or l q no_form)) → (j : ℕ) → Within (2 ^ 20) (2 ^ 20) (get_or (set l q f) j no_form)
+position_put l q f w h = all_set (Within (2 ^ 20) (2 ^ 20)) l q f no_form none_within h w
 
-pub zeros_stated : Stated zeros
-unfolding positions buffers from entry
-zeros_stated =
-    record {
-      whole = refl;
-      at_position = all_alike (Within (2 ^ 20) (2 ^ 20)) 8 zero_form zero_form zero_within zero_within;
-      at_buffer = all_alike SmallIndex 16 View.nothing View.nothing zero_within zero_within;
-    }
-
-module _ {l : List ℤ} (S : Stated l) where
-  -- what is read of it
-  pub position_small : (q : ℕ) {f : Form} → f ≡ get_or (positions l) q zero_form → Within (2 ^ 20) (2 ^ 20) f
-  position_small q e = subst (Within (2 ^ 20) (2 ^ 20)) (sym e) (S.at_position q)
-
-  pub buffer_small : (b : ℕ) {h : Held} → h ≡ get_or (buffers l) b View.nothing → SmallIndex h
-  buffer_small b e = subst SmallIndex (sym e) (S.at_buffer b)
-
-  -- with another position or content
-  pub position_stated : (q : ℕ) {f : Form} {r : List ℤ} → Positioned q f l r → Within (2 ^ 20) (2 ^ 20) f → Stated r
-  position_stated q P w =
-      record {
-        whole = P.whole;
-        at_position = all_put (Within (2 ^ 20) (2 ^ 20)) (positions l) q P.positions_are zero_within S.at_position w;
-        at_buffer = all_same SmallIndex View.nothing P.buffers_are S.at_buffer;
-      }
-
-  pub buffer_stated : (b : ℕ) {h : Held} {r : List ℤ} → Holding b h l r → SmallIndex h → Stated r
-  buffer_stated b H w =
-      record {
-        whole = H.whole;
-        at_position = all_same (Within (2 ^ 20) (2 ^ 20)) zero_form H.positions_are S.at_position;
-        at_buffer = all_put SmallIndex (buffers l) b H.buffers_are zero_within S.at_buffer w;
-      }
+pub buffer_put : (l : List (Option Held)) (b : ℕ) (h : Option Held) → SmallHeld h → ((b : ℕ) → SmallHeld (get_or l b None)) → (j : ℕ) → SmallHeld (get_or (set l b h) j None)
+buffer_put l b h w a = all_set SmallHeld l b h None none_small a w
 
 -- ---- all rows of a for
 

@@ -1,8 +1,7 @@
 // Hold rows: whether they fit, the ledger that they state, and, with a counter put or moved in them, whether they are true and what they leave.
 #![tactic(auto)]
 
-ghost use Rattle.std.specs.Prelude.{◌≡◌, ◌&&◌, map, ℕ, ◌+◌, ◌^◌, ◌≤◌, eqb, take, drop};
-ghost use Rattle.numbers.specs.Bounds.{Small};
+ghost use Rattle.std.specs.Prelude.{◌≡◌, ◌&&◌, map, ℕ, ◌+◌, ◌^◌, ◌≤◌, eqb, get_or, take, drop, None};
 ghost use Rattle.numbers.specs.Lists.{alike};
 ghost use Rattle.forms.specs.Form as F;
 ghost use Rattle.forms.specs.Code.{form, loops, Within};
@@ -10,275 +9,186 @@ ghost use Rattle.kernel.specs.File as File;
 ghost use Rattle.kernel.specs.Ledger as L;
 ghost use Rattle.kernel.specs.Derivation as Derivation;
 ghost use Rattle.kernel.specs.Check as Check;
+ghost use Rattle.kernel.specs.Named as Named;
 ghost use Rattle.parts.specs.Records.{rec};
-ghost use Rattle.parts.specs.Parts.{records_in, Lies};
+ghost use Rattle.parts.specs.Tables.{rows};
 ghost use Rattle.check_ledger.specs.View as View;
-ghost use Rattle.check_ledger.specs.View.{Whole, Bounded};
+ghost use Rattle.check_ledger.specs.View.{Bounded};
 ghost use Rattle.check_rows.specs.View.{rows_fit_from, SmallForms, FromRows};
-ghost use Rattle.check_rows.specs.Changes.{amount, with_change, Stated};
+ghost use Rattle.check_rows.specs.Changes.{with_change, SmallHeld, Stated};
 
-use check_ledger::{Entries, Held};
+use check_ledger::{Held, Ledger};
 use forms::{Form, Loops};
-use parts::{Part, Rec};
+use kernel::codes::{MINUS_ONE, Row};
+use parts::{Rec, RecordTable};
+
+pub mod change;
+
+pub use change::{Change, Counter};
 
 // ---- do they fit
 
-// Whether a row has this code and p, and names only the first `level` counters.
-fn row_fits(r: Rec, code: u32, p: u32, level: usize) -> bool
-    ensures { result ≡ (eqb (rec r).code code && eqb (rec r).p p && F.around level (File.form (rec r))) }
+// Whether a row is of this kind, has this p, and names only the first `level` counters.
+fn row_fits(r: Rec, kind: Row, p: u32, level: usize) -> bool
+    ensures { result ≡ (eqb (rec r).code (Named.row kind) && eqb (rec r).p p && F.around level (File.form (rec r))) }
 {
-    if r.code != code {
-        return false;
-    }
-    if r.p != p {
-        return false;
-    }
-    let f = parts::form_of(r);
-    f.around(level)
+    r.code == u32::from(kind) && r.p == p && r.form().around(level)
 }
 
-// Whether n rows of a code stand from record `from` on, by p from 0 up, that name only the first `level` counters.
-fn in_order(file: &[u8], part: Part, code: u32, level: usize, from: usize, n: usize) -> bool
-    requires { Lies 1024 file.now part × (from ≤ 4096) × (n ≤ 16) }
-    ensures { result ≡ Check.in_order code level 0 n (drop from (records_in file.now part)) }
+// Whether n rows of a kind stand from record `from` on, by p from 0 up, that name only the first `level` counters.
+fn in_order(records: RecordTable, kind: Row, level: usize, from: usize, n: usize) -> bool
+    requires { (from ≤ 4096) × (n ≤ 16) }
+    ensures { result ≡ Check.in_order (Named.row kind) level 0 n (drop from (rows records.entry)) }
 {
-    let mut m = 0;
-    while m < n {
-        let i = from + m;
-        if part.count <= i {
-            return false;
-        }
-        let r = parts::record_in(file, part, i);
-        if !row_fits(r, code, m as u32, level) {
-            return false;
-        }
-        m += 1;
-    }
-    true
+    (0..n).all(|m| {
+        from + m < records.part.count && row_fits(records.record(from + m), kind, m as u32, level)
+    })
 }
 
 // Whether the rows of a for stand from record `from` on: its arrays', then its buffers'.
 pub fn rows_fit(
-    file: &[u8],
-    part: Part,
+    records: RecordTable,
     level: usize,
     from: usize,
     arrays: usize,
     buffers: usize,
 ) -> bool
-    requires { Lies 1024 file.now part × (from ≤ 2048) × (arrays ≤ 8) × (buffers ≤ 16) }
-    ensures { result ≡ rows_fit_from level from arrays buffers (records_in file.now part) }
+    requires { (from ≤ 2048) × (arrays ≤ 8) × (buffers ≤ 16) }
+    ensures { result ≡ rows_fit_from level from arrays buffers (rows records.entry) }
 {
-    if !in_order(file, part, kernel::codes::POSITION_ROW, level, from, arrays) {
-        return false;
-    }
-    in_order(
-        file,
-        part,
-        kernel::codes::BUFFER_ROW,
-        level,
-        from + arrays,
-        buffers,
-    )
+    in_order(records, Row::Position, level, from, arrays)
+        && in_order(records, Row::Buffer, level, from + arrays, buffers)
 }
 
 // ---- what they state
 
 // What a buffer row states: an input array and an index form, or nothing.
-fn row_held(r: Rec) -> Held
-    ensures { (View.held result ≡ Derivation.row_held (rec r)) × (form result.index ≡ File.form (rec r)) }
+fn row_held(r: Rec) -> Option<Held>
+    ensures { View.held result ≡ Derivation.row_held (rec r) }
 {
-    let index = parts::form_of(r);
-    if r.q == kernel::codes::MINUS_ONE {
-        return Held { number: 0, index };
+    if r.q == MINUS_ONE {
+        return None;
     }
-    let number = check_ledger::number_of(r.q as usize);
-    Held { number, index }
+    Some(Held {
+        array: r.q as usize,
+        index: r.form(),
+    })
 }
 
-// The first n positions become those that rows from record `from` on state.
-fn positions(file: &[u8], part: Part, from: usize, n: usize, rows: &mut Entries)
-    requires { Lies 1024 file.now part × (from + n ≤ part.count) × (n ≤ 8) × SmallForms (records_in file.now part) × Stated rows.old }
-    ensures { (View.positions_of n rows.new ≡ map File.form (take n (drop from (records_in file.now part)))) × (View.buffers rows.new ≡ View.buffers rows.old) × Stated rows.new }
+// The positions that n rows from record `from` on state.
+fn positions(records: RecordTable, from: usize, n: usize) -> [Form; 8]
+    requires { (from + n ≤ records.part.count) × (n ≤ 8) × SmallForms (rows records) }
+    ensures { (map form (take n result) ≡ map File.form (take n (drop from (rows records.entry)))) × ((q : ℕ) → Within (2 ^ 20) (2 ^ 20) (get_or result q View.no_form)) }
 {
-    let mut i = 0;
-    while i < n {
-        let row = parts::record_in(file, part, from + i);
-        check_ledger::put_position(rows, i, parts::form_of(row));
-        i += 1;
+    let mut positions = [Form::constant(0); 8];
+    for i in 0..n {
+        positions[i] = records.record(from + i).form();
     }
+    positions
 }
 
-// The first n buffers become what rows from record `from` on state.
-fn buffers(file: &[u8], part: Part, from: usize, n: usize, rows: &mut Entries)
-    requires { Lies 1024 file.now part × (from + n ≤ part.count) × (n ≤ 16) × SmallForms (records_in file.now part) × Stated rows.old }
-    ensures { (View.held_of n rows.new ≡ map Derivation.row_held (take n (drop from (records_in file.now part)))) × (View.positions rows.new ≡ View.positions rows.old) × Stated rows.new }
+// What the buffers hold that n rows from record `from` on state.
+fn buffers(records: RecordTable, from: usize, n: usize) -> [Option<Held>; 16]
+    requires { (from + n ≤ records.part.count) × (n ≤ 16) × SmallForms (rows records) }
+    ensures { (map View.held (take n result) ≡ map Derivation.row_held (take n (drop from (rows records.entry)))) × ((b : ℕ) → SmallHeld (get_or result b None)) }
 {
-    let mut i = 0;
-    while i < n {
-        let row = parts::record_in(file, part, from + i);
-        check_ledger::put_buffer(rows, i, row_held(row));
-        i += 1;
+    let mut buffers = [None; 16];
+    for i in 0..n {
+        buffers[i] = row_held(records.record(from + i));
     }
+    buffers
 }
 
-// The ledger that the rows after the for at record `rule` of the derivation state.
-pub fn state(file: &[u8], part: Part, rule: usize, a: usize, b: usize, rows: &mut Entries)
-    requires { Lies 1024 file.now part × (rule + 1 + a + b ≤ part.count) × (a ≤ 8) × (b ≤ 16) × SmallForms (records_in file.now part) × Stated rows.old }
-    ensures { FromRows (records_in file.now part) rule a b rows.new × Stated rows.new }
-{
-    positions(file, part, rule + 1, a, rows);
-    buffers(file, part, rule + 1 + a, b, rows);
-}
-
-// ---- the counter of a level changed in them
-
-// The counter is put at a value, or goes a step on.
+// What the hold rows of a for state: a ledger of so many streams and buffers, its forms those of a file.
 #[derive(Clone, Copy)]
-pub enum Change {
-    At(i64),
-    By(i64),
-}
-
-// A form with the counter changed.
-fn changed(f: Form, level: usize, change: Change) -> Form
-    requires { Within (2 ^ 20) (2 ^ 20) f × Small (2 ^ 16) (amount change) }
-    ensures { (form result ≡ with_change level change (form f)) × Within (2 ^ 37) (2 ^ 20) result }
-{
-    match change {
-        Change::At(c) => f.put_at(level, c),
-        Change::By(step) => f.moved_by(level, step),
-    }
-}
-
-// What a buffer holds, its index changed.
-fn held_changed(h: Held, level: usize, change: Change) -> Held
-    requires { Within (2 ^ 20) (2 ^ 20) h.index × Small (2 ^ 16) (amount change) }
-    ensures { View.held result ≡ L.each_held (with_change level change) (View.held h) }
-{
-    let f = h.index;
-    let index = changed(f, level, change);
-    Held {
-        number: h.number,
-        index,
-    }
-}
-
-// ---- are they true, so changed, with these loops around
-
-// Whether each of the first a position rows equals the ledger.
-fn positions_true(
-    rows: &Entries,
-    l: &Entries,
-    level: usize,
-    change: Change,
-    a: usize,
-    around: Loops,
-) -> bool
-    requires { Stated rows.now × Small (2 ^ 16) (amount change) × (a ≤ 8) }
-    ensures { (b : ℕ) → result ≡ L.same_positions (loops around) (L.each (with_change level change) (View.ledger a b rows.now)) (View.ledger a b l.now) }
-{
-    let mut i = 0;
-    while i < a {
-        let f = check_ledger::position(rows, i);
-        let g = check_ledger::position(l, i);
-        let next = changed(f, level, change);
-        if !next.same(g, around) {
-            return false;
-        }
-        i += 1;
-    }
-    true
+pub struct HoldRows {
+    pub ledger: Ledger,
+    pub arrays: usize,
+    pub buffers: usize,
+    pub ghost stated: { Stated ledger },
+    pub ghost few_arrays: { arrays ≤ 8 },
+    pub ghost few_buffers: { buffers ≤ 16 },
 }
 
 // Whether a buffer row is nothing or what the buffer holds; nothing is not changed.
-fn row_true(row: Held, h: Held, level: usize, change: Change, around: Loops) -> bool
-    requires { Within (2 ^ 20) (2 ^ 20) row.index × Small (2 ^ 16) (amount change) }
-    ensures { result ≡ L.row_true (loops around) (L.each_held (with_change level change) (View.held row)) (View.held h) }
+fn row_true(row: Option<Held>, buffer: Option<Held>, change: Change, around: Loops) -> bool
+    requires { SmallHeld row }
+    ensures { result ≡ L.row_true (loops around) (L.each_held (with_change change) (View.held row)) (View.held buffer) }
 {
-    if row.number <= 0 {
-        return true;
-    }
-    let next = held_changed(row, level, change);
-    check_ledger::row_true(next, h, around)
+    check_ledger::row_true(change.held(row), buffer, around)
 }
 
-// Whether each of the first b buffer rows is nothing or what its buffer holds.
-fn buffers_true(
-    rows: &Entries,
-    l: &Entries,
-    level: usize,
-    change: Change,
-    b: usize,
-    around: Loops,
-) -> bool
-    requires { Stated rows.now × Small (2 ^ 16) (amount change) × (b ≤ 16) }
-    ensures { result ≡ alike (L.row_true (loops around)) (map (L.each_held (with_change level change)) (View.held_of b rows.now)) (View.held_of b l.now) }
-{
-    let mut i = 0;
-    while i < b {
-        let row = check_ledger::buffer(rows, i);
-        let h = check_ledger::buffer(l, i);
-        if !row_true(row, h, level, change, around) {
-            return false;
+impl HoldRows {
+    // What the rows after the for at record `rule` of the derivation state, of so many streams and buffers.
+    pub fn after(records: RecordTable, rule: usize, arrays: usize, buffers: usize) -> HoldRows
+        requires { (rule + 1 + arrays + buffers ≤ records.part.count) × (arrays ≤ 8) × (buffers ≤ 16) × SmallForms (rows records) }
+        ensures { FromRows (rows records.entry) rule arrays buffers result.ledger × (result.arrays ≡ arrays) × (result.buffers ≡ buffers) }
+    {
+        let ledger = Ledger {
+            positions: positions(records, rule + 1, arrays),
+            buffers: self::buffers(records, rule + 1 + arrays, buffers),
+        };
+        HoldRows {
+            ledger,
+            arrays,
+            buffers,
         }
-        i += 1;
     }
-    true
-}
 
-// Whether each position row equals the ledger and each buffer row is nothing or equals it.
-pub fn rows_true(
-    rows: &Entries,
-    l: &Entries,
-    level: usize,
-    change: Change,
-    a: usize,
-    b: usize,
-    around: Loops,
-) -> bool
-    requires { Stated rows.now × Small (2 ^ 16) (amount change) × (a ≤ 8) × (b ≤ 16) }
-    ensures { result ≡ L.rows_true (loops around) (L.each (with_change level change) (View.ledger a b rows.now)) (View.ledger a b l.now) }
-{
-    if !positions_true(rows, l, level, change, a, around) {
-        return false;
+    // ---- are they true, so changed, with these loops around
+
+    // Whether each position row equals the ledger.
+    fn positions_true(&self, l: &Ledger, change: Change, around: Loops) -> bool
+        ensures { (b : ℕ) → result ≡ L.same_positions (loops around) (L.each (with_change change) (View.ledger self.now.arrays b self.now.ledger)) (View.ledger self.now.arrays b l.now) }
+    {
+        self.ledger.positions[..self.arrays]
+            .iter()
+            .zip(&l.positions[..self.arrays])
+            .all(|(f, g)| change.form(*f).same(*g, around))
     }
-    buffers_true(rows, l, level, change, b, around)
-}
 
-// ---- what they leave, so changed
-
-// The first a positions of a ledger become those of the rows.
-fn positions_left(rows: &Entries, level: usize, change: Change, a: usize, l: &mut Entries)
-    requires { Stated rows.now × Small (2 ^ 16) (amount change) × (a ≤ 8) × ((n : ℕ) × Bounded n l.old) }
-    ensures { (View.positions_of a l.new ≡ map (with_change level change) (View.positions_of a rows.now)) × (View.buffers l.new ≡ View.buffers l.old) × ((n : ℕ) → Bounded n l.old → Bounded n l.new) }
-{
-    let mut i = 0;
-    while i < a {
-        let f = check_ledger::position(rows, i);
-        check_ledger::put_position(l, i, changed(f, level, change));
-        i += 1;
+    // Whether each buffer row is nothing or what its buffer holds.
+    fn buffers_true(&self, l: &Ledger, change: Change, around: Loops) -> bool
+        ensures { result ≡ alike (L.row_true (loops around)) (map (L.each_held (with_change change)) (View.held_of self.now.buffers self.now.ledger)) (View.held_of self.now.buffers l.now) }
+    {
+        self.ledger.buffers[..self.buffers]
+            .iter()
+            .zip(&l.buffers[..self.buffers])
+            .all(|(row, h)| row_true(*row, *h, change, around))
     }
-}
 
-// The first b buffers of a ledger become what those of the rows hold.
-fn buffers_left(rows: &Entries, level: usize, change: Change, b: usize, l: &mut Entries)
-    requires { Stated rows.now × Small (2 ^ 16) (amount change) × (b ≤ 16) × Whole l.old }
-    ensures { (View.held_of b l.new ≡ map (L.each_held (with_change level change)) (View.held_of b rows.now)) × (View.positions l.new ≡ View.positions l.old) × Whole l.new }
-{
-    let mut i = 0;
-    while i < b {
-        let h = check_ledger::buffer(rows, i);
-        check_ledger::put_buffer(l, i, held_changed(h, level, change));
-        i += 1;
+    // Whether each position row equals the ledger and each buffer row is nothing or equals it.
+    pub fn are_true(&self, l: &Ledger, change: Change, around: Loops) -> bool
+        ensures { result ≡ L.rows_true (loops around) (L.each (with_change change) (View.ledger self.now.arrays self.now.buffers self.now.ledger)) (View.ledger self.now.arrays self.now.buffers l.now) }
+    {
+        self.positions_true(l, change, around) && self.buffers_true(l, change, around)
     }
-}
 
-// A ledger becomes that of the rows.
-pub fn rows_left(rows: &Entries, level: usize, change: Change, a: usize, b: usize, l: &mut Entries)
-    requires { Stated rows.now × Small (2 ^ 16) (amount change) × (a ≤ 8) × (b ≤ 16) × ((n : ℕ) × Bounded n l.old) }
-    ensures { (View.ledger a b l.new ≡ L.each (with_change level change) (View.ledger a b rows.now)) × ((n : ℕ) → Bounded n l.old → Bounded n l.new) }
-{
-    positions_left(rows, level, change, a, l);
-    buffers_left(rows, level, change, b, l);
+    // ---- what they leave, so changed
+
+    // The positions of a ledger become those of the rows.
+    fn leave_positions(&self, change: Change, l: &mut Ledger)
+        ensures { (View.positions_of self.now.arrays l.new ≡ map (with_change change) (View.positions_of self.now.arrays self.now.ledger)) × (l.new.buffers ≡ l.old.buffers) × ((n : ℕ) → Bounded n l.old → Bounded n l.new) }
+    {
+        for i in 0..self.arrays {
+            l.positions[i] = change.form(self.ledger.positions[i]);
+        }
+    }
+
+    // The buffers of a ledger come to hold what those of the rows hold.
+    fn leave_buffers(&self, change: Change, l: &mut Ledger)
+        ensures { (View.held_of self.now.buffers l.new ≡ map (L.each_held (with_change change)) (View.held_of self.now.buffers self.now.ledger)) × (l.new.positions ≡ l.old.positions) }
+    {
+        for i in 0..self.buffers {
+            l.buffers[i] = change.held(self.ledger.buffers[i]);
+        }
+    }
+
+    // A ledger becomes that of the rows.
+    pub fn leave(&self, change: Change, l: &mut Ledger)
+        ensures { (View.ledger self.now.arrays self.now.buffers l.new ≡ L.each (with_change change) (View.ledger self.now.arrays self.now.buffers self.now.ledger)) × ((n : ℕ) → Bounded n l.old → Bounded n l.new) }
+    {
+        self.leave_positions(change, l);
+        self.leave_buffers(change, l);
+    }
 }

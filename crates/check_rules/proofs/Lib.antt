@@ -1,3 +1,3 @@
 pub mod Fitting
+pub mod Needs
 pub mod Effects
-pub mod ByCode

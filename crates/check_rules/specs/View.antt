@@ -1,7 +1,9 @@
 -- A line of the table of rules: whether a for fits; and of a rule that opens and closes no block, which entries of the ledger it asks about, what it
 -- asks of them, and what it makes of the ledger.
-use Rattle.std.specs.Prelude.{ℕ, ◌+◌, ◌-◌, ◌≤◌, ◌<◌, ◌≡◌, Bool, true, false, cond, List, eqb, ℤ, length}
+use Rattle.std.specs.Prelude.{ℕ, ◌+◌, ◌-◌, ◌≤◌, ◌<◌, ◌≡◌, Bool, true, false, List, length, Ok, Err}
+use Rattle.std.specs.Prelude as Std
 use Rattle.std.proofs.Math.Option.{Option}
+use Rattle.std.proofs.Props.{props}
 use Rattle.numbers.specs.Result.{Result, ok, stop, ◌>>=◌, need}
 use Rattle.forms.specs.Form.{Form, along, Loop, same, below}
 use Rattle.kernel.specs.Numbers.{does_not_fit, past_count, not_next_index, not_held}
@@ -9,8 +11,11 @@ use Rattle.kernel.specs.File.{Rec, form, Kernel, first_of, count_of, step_of, ar
 use Rattle.kernel.specs.Ledger.{Held, held, Ledger, position, holding, read_step, write_step, fill_step, move_step, holds_just}
 use Rattle.kernel.specs.Derivation.{Place, loops, buffer, Rule, same_rule, read_rule, fill_rule, use_rule, move_rule, write_rule, for_rule, if_rule, else_rule, end_rule, no_rule}
 use Rattle.kernel.specs.Check.{something, fits}
+use Rattle.kernel.specs.Named.{misfit}
+use Rattle.kernel.specs.declared.refusals.Misfit.{Misfit}
 use Rattle.parts.specs.declared.Counts.{Counts}
 use Rattle.parts.specs.Parts.{kernel}
+use Rattle.check_ledger.specs.declared.Ledger as Code
 use Rattle.check_ledger.specs.View.{ledger, Bounded}
 
 -- whether a for fits, at this record of the derivation and with so many loops around
@@ -30,6 +35,20 @@ Named c if_rule a s = ⊥
 Named c else_rule a s = ⊥
 Named c end_rule a s = ⊥
 Named c no_rule a s = ⊥
+
+-- in one way
+pub Named-prop : (c : Counts) (r : Rule) (a s : Rec) → IsProp (Named c r a s)
+Named-prop c same_rule a s = Prim.hlevel props
+Named-prop c read_rule a s = Prim.hlevel props
+Named-prop c fill_rule a s = Prim.hlevel props
+Named-prop c use_rule a s = Prim.hlevel props
+Named-prop c move_rule a s = Prim.hlevel props
+Named-prop c write_rule a s = Prim.hlevel props
+Named-prop c for_rule a s = Prim.hlevel props
+Named-prop c if_rule a s = Prim.hlevel props
+Named-prop c else_rule a s = Prim.hlevel props
+Named-prop c end_rule a s = Prim.hlevel props
+Named-prop c no_rule a s = Prim.hlevel props
 
 -- ---- what a rule asks
 
@@ -93,9 +112,10 @@ abbrev pub asked_there : Kernel → Place → Rule → (a s : Rec) → Result �
 asked_there K c r a s =
     asked K (loops c.opened) r a s (position (stream_of r a s) c.ledger) (holding (buffer_of K.registers r s) c.ledger)
 
--- the code's answer: 0 where nothing is refused
-unfoldable pub answered : (number : ℕ) → Result ℕ (Unit {0})
-answered number = cond (eqb number 0) (ok tt) (stop number)
+-- the code's answer
+unfoldable pub answered : Std.Result Unit Misfit → Result ℕ (Unit {0})
+answered (Ok u) = ok tt
+answered (Err m) = stop (misfit m)
 
 -- ---- what it does
 
@@ -142,6 +162,6 @@ arrays_taken end_rule = 1
 arrays_taken no_rule = 1
 
 -- the code's ledger l becomes r as the rule says, and its positions at most one larger
-pub record Steps (file : List ℕ) (c : Counts) (rule : Rule) (a s : Rec) (l r : List ℤ) : Type 0 where
+pub record Steps (file : List ℕ) (c : Counts) (rule : Rule) (a s : Rec) (l r : Code.Ledger) : Type 0 where
   pub as_said : ledger c.a c.b r ≡ stepped (kernel file c) rule a s (ledger c.a c.b l)
   pub bounded : (m : ℕ) → Bounded m l → Bounded (m + 1) r

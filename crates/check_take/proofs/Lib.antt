@@ -1,3 +1,5 @@
+pub mod Decoded
+pub mod Came
 pub mod Comes
 pub mod Standing
 pub mod Statements

@@ -36,9 +36,6 @@ module _ (l : Loop) (h : LoopFits (loop l)) where
   pub step_as : back l.step ≡ l.step
   step_as = as_it_is step_small tt
 
-  pub product_fits : SFits w64 (back l.step *ℤ passes)
-  product_fits = rw number (fits (small_mul step_back_small passes_small) tt)
-
   pub sum_fits : SFits w64 (back l.first +ℤ back (back l.step *ℤ passes))
   sum_fits = rw number (fits (sum_back first_small (small_mul step_back_small passes_small)) tt)
 

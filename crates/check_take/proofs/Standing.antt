@@ -1,20 +1,19 @@
 -- Where the check stands no number is large.
 use Prim.Native.Nat.{ℕ, ◌≤◌}
-use mathlib.Core.List.{List}
 use native.Mathlib.Omega.{arith}
-use lib.IntN.{ℤ}
-use Rattle.parts.specs.declared.Counts.{Counts}
+use Rattle.parts.specs.declared.Kernel.{Kernel}
 use Rattle.parts.proofs.Parts.{few}
+use Rattle.check_ledger.specs.declared.Ledger.{Ledger}
 use Rattle.check_ledger.specs.View.{Bounded}
 use Rattle.check_take.specs.declared.Place.{Place}
 use Rattle.check_take.specs.View.{AtRule}
 
-module _ {file : List ℕ} {c : Counts} {at : Place} {l : List ℤ} (there : AtRule file c at l) where
+module _ (k : Kernel) {at : Place} {l : Ledger} (there : AtRule k.counts at l) where
   -- a rule and so many statements may be taken
   pub near : {arrays : ℕ} → arrays ≤ 1 → (at.rule ≤ 4096) × (at.array ≤ 4096) × (at.stream ≤ 4096) × (arrays ≤ 1)
   near few_more =
       let s = there.stood in
-      let f = few file c there.reads in
+      let f = few k.file.now k.counts k.reads in
       (omega (arith, f.rules, s.rules), omega (arith, f.rules, s.rules, s.arrays), omega (arith, f.rules, s.rules, s.streams), few_more)
 
   pub small_ledger : (m : ℕ) × Bounded m l × (m ≤ 4096)

@@ -2,9 +2,9 @@
 use Prim.Native.Nat.{ℕ, ◌≤◌, ◌<◌}
 use mathlib.Core.Path.{◌≡◌, sym, subst}
 use mathlib.Core.Bool.{true, false≢true}
-use mathlib.Core.Logic.{inl, inr}
 use mathlib.Core.List.{List, [], ◌∷◌}
 use native.Mathlib.Omega.{arith}
+use borrow.Author.Rules.{rules}
 use lib.Dec.{eqb}
 use lib.ListN.{length, get_or}
 use borrow.Author.Tests.{eqb-true}
@@ -12,21 +12,22 @@ use Rattle.numbers.proofs.Tests.{and_left, and_right, each_of}
 use Rattle.kernel.specs.File.{Rec, nothing, copies, loads, stores, reads, writes, Statement, statement}
 use Rattle.kernel.specs.Reading.{Scope, array_scope, stream_scope}
 use Rattle.kernel.specs.Derivation as Derivation
-use Rattle.kernel.specs.Derivation.{Rule, same_rule, read_rule, fill_rule, use_rule, move_rule, write_rule, for_rule, if_rule, else_rule, end_rule, no_rule, rule}
+use Rattle.kernel.specs.Derivation.{same_rule, read_rule, fill_rule, use_rule, move_rule, write_rule, for_rule, if_rule, else_rule, end_rule, no_rule}
 use Rattle.kernel.specs.Check.{codes, same_p, same_pq, is_buffer, fits}
 use Rattle.kernel.specs.Guarantees.{StatementFits, Nested}
 use Rattle.kernel.proofs.Fitting.{codes_say, buffer_says}
 use Rattle.kernel.proofs.Sayings.{says_copy, says_load, says_store, says_read, fits_at, there_at}
-use Rattle.parts.specs.declared.Counts.{Counts}
-use Rattle.parts.specs.declared.Rec as Code
+use Rattle.kernel.specs.Named.{rule}
+use Rattle.kernel.specs.declared.codes.Rule.{Rule}
+use Rattle.parts.specs.declared.Kernel.{Kernel}
 use Rattle.parts.specs.Records.{rec}
-use Rattle.parts.specs.Parts.{ReadAs}
 use Rattle.parts.proofs.Parts as Parts
-use Rattle.parts.proofs.Parts.{K, arrays_count, registers_are, buffers_are}
+use Rattle.parts.proofs.Parts.{arrays_count, registers_are, buffers_are}
+use Rattle.check_rules.specs.declared.Pair.{Pair}
 use Rattle.check_rules.specs.View.{Named}
-use Rattle.check_rules.proofs.Effects.{PlainRule, by_code}
+use Rattle.check_rules.proofs.Effects.{PlainRule}
 use Rattle.check_take.specs.declared.Place.{Place}
-use Rattle.check_take.specs.View.{array_there, stream_there, Next, Plain}
+use Rattle.check_take.specs.View.{held_by, array_there, stream_there, Next, Plain}
 
 -- ---- a statement of a program that reads, by its code
 
@@ -51,53 +52,46 @@ module _ (c : Scope) (rs : List Rec) (reads_whole : Nested c [] rs) (i : ℕ) wh
       let f = said_fits (omega (arith, e)) (says_read r e) in
       (f.0, f.1.there)
 
--- ---- plain rules by their codes
+-- ---- plain rules
 
-pub level_at : (n : ℕ) → Plain n → PlainRule (rule n)
-level_at = by_code (λ n r. Plain n → PlainRule r) (λ h. tt) (λ h. tt) (λ h. tt) (λ h. tt) (λ h. tt) (λ h. tt) (λ h. no h (omega arith) (omega arith)) (λ h. no h (omega arith) (omega arith)) (λ h. no h (omega arith) (omega arith)) (λ h. no h (omega arith) (omega arith)) (λ n h. tt)
-  where
-    no : {n : ℕ} → Plain n → 7 ≤ n → n ≤ 10 → ⊥
-    no (inl h) low high = omega arith
-    no (inr h) low high = omega arith
-
-pub not_for : (n : ℕ) → Plain n → n ≡ 7 → ⊥
-not_for n (inl h) e = omega (arith, h, e)
-not_for n (inr h) e = omega (arith, h, e)
+pub level_at : (r : Rule) → Plain r → PlainRule (rule r)
+unfolding rule
+level_at r h = search rules
 
 -- ---- what a rule that fits says of the statements: the arrays and buffers that they name are there
 
-module _ (file : List ℕ) (c : Counts) (e : ReadAs file c) (at : Place) (d : Derivation.Place) where
+module _ (k : Kernel) (at : Place) (d : Derivation.Place) where
   abbrev a : Rec
-  a = array_there file c at
+  a = array_there k at
 
   abbrev s : Rec
-  s = stream_there file c at
+  s = stream_there k at
 
-  load_there : a.code ≡ loads → a.q < c.a
-  load_there h = omega (arith, load_names (array_scope (K file c)) (K file c).array_program (Parts.reads file c e).array_program at.array h, arrays_count file c)
+  load_there : a.code ≡ loads → a.q < k.counts.a
+  load_there h = omega (arith, load_names (array_scope (held_by k)) (held_by k).array_program (Parts.reads k.file.now k.counts k.reads).array_program at.array h, arrays_count k.file.now k.counts)
 
-  store_there : a.code ≡ stores → a.q < c.a
-  store_there h = omega (arith, store_names (array_scope (K file c)) (K file c).array_program (Parts.reads file c e).array_program at.array h, arrays_count file c)
+  store_there : a.code ≡ stores → a.q < k.counts.a
+  store_there h = omega (arith, store_names (array_scope (held_by k)) (held_by k).array_program (Parts.reads k.file.now k.counts k.reads).array_program at.array h, arrays_count k.file.now k.counts)
 
-  named : (r : Rule) → PlainRule r → fits (K file c) d r a s ≡ true → Named c r a s
+  named : (r : Derivation.Rule) → PlainRule r → fits (held_by k) d r a s ≡ true → Named k.counts r a s
   unfolding fits
   named same_rule l h = tt
   named read_rule l h = load_there (codes_say loads reads a s (and_left (codes loads reads a s) (same_pq a s) h)).0
   named fill_rule l h =
-      let (p, q) = read_names (stream_scope (K file c)) (K file c).stream_program (Parts.reads file c e).stream_program at.stream (eqb-true s.code reads (and_left (eqb s.code reads) (is_buffer (K file c) s.p) h)) in
-      let low = buffer_says (K file c) s.p (and_right (eqb s.code reads) (is_buffer (K file c) s.p) h) in
-      (omega (arith, q, arrays_count file c), omega (arith, low, registers_are file c), omega (arith, p, registers_are file c, buffers_are file c))
+      let (p, q) = read_names (stream_scope (held_by k)) (held_by k).stream_program (Parts.reads k.file.now k.counts k.reads).stream_program at.stream (eqb-true s.code reads (and_left (eqb s.code reads) (is_buffer (held_by k) s.p) h)) in
+      let low = buffer_says (held_by k) s.p (and_right (eqb s.code reads) (is_buffer (held_by k) s.p) h) in
+      (omega (arith, q, arrays_count k.file.now k.counts), omega (arith, low, registers_are k.file.now k.counts), omega (arith, p, registers_are k.file.now k.counts, buffers_are k.file.now k.counts))
   named use_rule l h =
-      let t = each_of (codes loads copies a s) (same_p a s ∷ is_buffer (K file c) s.q ∷ []) h in
-      let q = (copy_names (stream_scope (K file c)) (K file c).stream_program (Parts.reads file c e).stream_program at.stream (codes_say loads copies a s (t 0)).1).1 in
-      let low = buffer_says (K file c) s.q (t 2) in
-      (omega (arith, low, registers_are file c), omega (arith, q, registers_are file c, buffers_are file c))
+      let t = each_of (codes loads copies a s) (same_p a s ∷ is_buffer (held_by k) s.q ∷ []) h in
+      let q = (copy_names (stream_scope (held_by k)) (held_by k).stream_program (Parts.reads k.file.now k.counts k.reads).stream_program at.stream (codes_say loads copies a s (t 0)).1).1 in
+      let low = buffer_says (held_by k) s.q (t 2) in
+      (omega (arith, low, registers_are k.file.now k.counts), omega (arith, q, registers_are k.file.now k.counts, buffers_are k.file.now k.counts))
   named move_rule l h =
-      let t = each_of (eqb s.code copies) (is_buffer (K file c) s.p ∷ is_buffer (K file c) s.q ∷ []) h in
-      let (p, q) = copy_names (stream_scope (K file c)) (K file c).stream_program (Parts.reads file c e).stream_program at.stream (eqb-true s.code copies (t 0)) in
-      let low = buffer_says (K file c) s.p (t 1) in
-      let from = buffer_says (K file c) s.q (t 2) in
-      (omega (arith, low, registers_are file c), omega (arith, p, registers_are file c, buffers_are file c), omega (arith, from, registers_are file c), omega (arith, q, registers_are file c, buffers_are file c))
+      let t = each_of (eqb s.code copies) (is_buffer (held_by k) s.p ∷ is_buffer (held_by k) s.q ∷ []) h in
+      let (p, q) = copy_names (stream_scope (held_by k)) (held_by k).stream_program (Parts.reads k.file.now k.counts k.reads).stream_program at.stream (eqb-true s.code copies (t 0)) in
+      let low = buffer_says (held_by k) s.p (t 1) in
+      let from = buffer_says (held_by k) s.q (t 2) in
+      (omega (arith, low, registers_are k.file.now k.counts), omega (arith, p, registers_are k.file.now k.counts, buffers_are k.file.now k.counts), omega (arith, from, registers_are k.file.now k.counts), omega (arith, q, registers_are k.file.now k.counts, buffers_are k.file.now k.counts))
   named write_rule l h = store_there (codes_say stores writes a s (and_left (codes stores writes a s) (same_pq a s) h)).0
   named for_rule l h = absurd l
   named if_rule l h = absurd l
@@ -106,5 +100,5 @@ module _ (file : List ℕ) (c : Counts) (e : ReadAs file c) (at : Place) (d : De
   named no_rule l h = absurd (false≢true h)
 
   -- the same of the code's records
-  pub named_next : (r : Rule) → PlainRule r → fits (K file c) d r a s ≡ true → (p q : Code.Rec) → Next file c at p q → Named c r (rec p) (rec q)
-  named_next r l h p q n = subst (λ x. Named c r x (rec q)) (sym n.array_is) (subst (Named c r a) (sym n.stream_is) (named r l h))
+  pub named_next : (r : Derivation.Rule) → PlainRule r → fits (held_by k) d r a s ≡ true → (p : Pair) → Next k at p → Named k.counts r (rec p.array) (rec p.stream)
+  named_next r l h p n = subst (λ x. Named k.counts r x (rec p.stream)) (sym n.array_is) (subst (Named k.counts r a) (sym n.stream_is) (named r l h))

@@ -1,157 +1,168 @@
 -- How the walk goes on: a rule that is taken, one stretch after another, and where a block stops.
 use Prim.Native.Nat.{ℕ, ◌≤◌, ◌<◌}
 use mathlib.Core.Path.{◌≡◌, refl, sym, ap, subst, ◌∙◌}
-use mathlib.Core.Bool.{Bool, true, false, cond, not, ◌&&◌}
+use mathlib.Core.Bool.{Bool, true, false, not, ◌&&◌}
 use mathlib.Core.Logic.{inl, inr}
 use mathlib.Core.List.{List, []}
-use lib.IntN.{ℤ}
 use native.Mathlib.Omega.{arith}
-use lib.Dec.{eqb, leb}
+use lib.Dec.{leb}
 use lib.ListN.{length}
-use borrow.Author.Tests.{eq-eqb, ne_eqb, lt-leb, le-leb}
-use Rattle.numbers.specs.Result.{Result, ok, stop, ◌>>=◌, need, because}
-use Rattle.kernel.specs.File.{Kernel}
-use Rattle.kernel.specs.Derivation as S
-use Rattle.kernel.specs.Derivation.{Opened, Place}
+use Rattle.std.proofs.Common as Std
+use Rattle.std.proofs.Common.{Ok, Err, leb-true, le-leb}
+use Rattle.std.specs.Result.{IsErrAnd}
+use Rattle.std.proofs.lemmas.Bool.{not-true}
+use Rattle.std.proofs.lemmas.Result.{err_from_is_err_and}
+use Rattle.numbers.proofs.Tests.{and_left, and_right, and_true}
+use Rattle.numbers.specs.Result.{Result, stop, ◌>>=◌, need, because}
+use Rattle.kernel.specs.File as File
+use Rattle.kernel.specs.Derivation as Derivation
+use Rattle.kernel.specs.Derivation.{Opened}
 use Rattle.kernel.specs.Check as Check
-use Rattle.kernel.specs.Check.{refused_at, no_block, finish, walk_on}
+use Rattle.kernel.specs.Check.{no_block, finish, walk_on}
+use Rattle.kernel.specs.Named.{misfit, rule, ruled}
+use Rattle.kernel.specs.declared.codes.NoCode.{NoCode}
+use Rattle.kernel.specs.declared.codes.Rule.{Rule}
+use Rattle.kernel.specs.declared.codes.Rule.TheVariants.{Else, End}
+use Rattle.kernel.specs.declared.refusals.Misfit.{Misfit}
+use Rattle.kernel.specs.declared.refusals.Misfit.TheVariants.{DoesNotFit, StatementsLeft, BlockOpen}
 use Rattle.kernel.proofs.Walking.{walk_over, walk_take, none_open}
-use Rattle.parts.specs.declared.Counts.{Counts}
-use Rattle.parts.specs.Parts.{kernel}
-use Rattle.check_take.specs.declared.Place.{Place as At}
-use Rattle.check_take.specs.declared.Reached.{Reached}
-use Rattle.check_take.specs.View.{Taken, place, standing, taken, with_ledger, rule_code, TakesRule, Closing}
-use Rattle.check_take.proofs.Comes.{misplaced}
-use Rattle.check_take.proofs.Taking.{refuses}
+use Rattle.parts.specs.declared.Kernel.{Kernel}
 use Rattle.parts.proofs.Parts.{array_count, stream_count, rule_count}
+use Rattle.check_ledger.specs.declared.Ledger.{Ledger}
+use Rattle.check_take.specs.declared.Place.{Place}
+use Rattle.check_take.specs.declared.Refused.{Refused}
+use Rattle.check_take.specs.View.{Reached, held_by, place, standing, goes, refusal, refused, with_ledger, Taken, taken, rule_code, rule_or, due, array_there, stream_there, TakesRule, Closing}
+use Rattle.check_take.proofs.Came.{refuses, same_place}
+use Rattle.check_take.proofs.Decoded.{meant, decoded}
+use Rattle.check_take.proofs.Comes.{misplaced}
 use Rattle.check_walk.specs.View.{Goes, Rests, Stops}
 
--- refused there, whatever the ledger is then
-abbrev pub refusal : At → List ℤ → (number : ℕ) → Taken
-refusal at l number = record { number = number; at = at; ledger = l }
+-- a refusal that is passed on
+pub passed_on : {A B : Type 0} {r : Std.Result A Refused} {s : Std.Result B Refused} {e : Refused} → r ≡ Err e → IsErrAnd s (λ x. x ≡ e) → s ≡ Err e
+passed_on {s = s} p h =
+    let (x, is, same) = err_from_is_err_and s h in
+    is ∙ ap (λ (x : Refused). Err x) same
 
-module _ (file : List ℕ) (c : Counts) where
-  abbrev K : Kernel
-  K = kernel file c
+module _ (k : Kernel) where
+  abbrev K : File.Kernel
+  K = held_by k
 
-  abbrev at_place : List Opened → Taken → Place
-  at_place os w = place c.a c.b os w.at w.ledger
+  abbrev there : List Opened → Place → Ledger → Derivation.Place
+  there os at l = place k.counts.a k.counts.b os at l
 
   -- ---- one stretch after another
 
-  taken_goes : (os : List Opened) (r : Taken) → r.number ≡ 0 → taken c.a c.b os r ≡ ok (at_place os r)
-  unfolding taken
-  taken_goes os r z = ap (λ (t : Bool). cond t (ok (at_place os r)) (stop (refused_at (at_place os r) r.number))) (eq-eqb r.number 0 z)
+  pub goes_on : (os : List Opened) (r : Taken) {to : Place} → r.came ≡ Ok to → (taken k.counts.a k.counts.b os r >>= walk_on K) ≡ walk_on K (there os to r.ledger)
+  unfolding goes ◌>>=◌
+  goes_on os r e = ap (λ came. goes k.counts.a k.counts.b os r.ledger came >>= walk_on K) e
 
-  taken_stops : (os : List Opened) (r : Taken) → (r.number ≡ 0 → ⊥) → taken c.a c.b os r ≡ stop (refused_at (at_place os r) r.number)
-  unfolding taken
-  taken_stops os r z = ap (λ (t : Bool). cond t (ok (at_place os r)) (stop (refused_at (at_place os r) r.number))) (ne_eqb r.number 0 z)
-
-  pub goes_on : (os : List Opened) (r : Taken) → r.number ≡ 0 → (taken c.a c.b os r >>= walk_on K) ≡ walk_on K (at_place os r)
-  unfolding ◌>>=◌
-  goes_on os r z = ap (λ x. x >>= walk_on K) (taken_goes os r z)
-
-  pub goes_nowhere : (os : List Opened) (r : Taken) → (r.number ≡ 0 → ⊥) → (taken c.a c.b os r >>= walk_on K) ≡ stop (refused_at (at_place os r) r.number)
-  unfolding ◌>>=◌
-  goes_nowhere os r z = ap (λ x. x >>= walk_on K) (taken_stops os r z)
+  pub goes_nowhere : (os : List Opened) (r : Taken) {e : Refused} → r.came ≡ Err e → (taken k.counts.a k.counts.b os r >>= walk_on K) ≡ stop (refusal e)
+  unfolding goes ◌>>=◌
+  goes_nowhere os r e = ap (λ came. goes k.counts.a k.counts.b os r.ledger came >>= walk_on K) e
 
   -- nothing taken
-  pub goes_none : (os : List Opened) (w : Taken) → w.number ≡ 0 → Goes file c os w os w
-  goes_none os w z = sym (goes_on os w z)
+  pub goes_none : (os : List Opened) (at : Place) (l : Ledger) → Goes k os at l os (standing at l)
+  goes_none os at l = sym (goes_on os (standing at l) refl)
 
   -- a rule taken
-  pub goes_rule : (os os' : List Opened) (w r : Taken) → w.at.rule < c.d → TakesRule file c os w.at w.ledger os' r → Goes file c os w os' r
-  goes_rule os os' w r h t = walk_take K (at_place os w) (omega (arith, h, rule_count file c)) ∙ ap (λ x. x >>= walk_on K) (sym t)
+  pub goes_rule : (os os' : List Opened) (at : Place) (l : Ledger) (r : Taken) → at.rule < k.counts.d → TakesRule k os at l os' r → Goes k os at l os' r
+  goes_rule os os' at l r h t =
+      walk_take K (there os at l) (omega (arith, h, rule_count k.file.now k.counts)) ∙ ap (λ x. x >>= walk_on K) (sym t)
 
   -- one stretch, then another
-  pub goes_then : (os os₁ os₂ : List Opened) (w e r : Taken) → Goes file c os w os₁ e → e.number ≡ 0 → Goes file c os₁ e os₂ r → Goes file c os w os₂ r
-  goes_then os os₁ os₂ w e r g z h = g ∙ goes_on os₁ e z ∙ h
+  pub goes_then : (os os₁ os₂ : List Opened) (at : Place) (l : Ledger) (e r : Taken) {to : Place} → Goes k os at l os₁ e → e.came ≡ Ok to → Goes k os₁ to e.ledger os₂ r → Goes k os at l os₂ r
+  goes_then os os₁ os₂ at l e r g z h = g ∙ goes_on os₁ e z ∙ h
 
   -- a refusal stays one, whatever is open and whatever the ledger is then
-  pub goes_stop : (os os₁ os₂ : List Opened) (w e : Taken) (m : List ℤ) → Goes file c os w os₁ e → (e.number ≡ 0 → ⊥) → Goes file c os w os₂ (refusal e.at m e.number)
-  goes_stop os os₁ os₂ w e m g z = g ∙ goes_nowhere os₁ e z ∙ sym (goes_nowhere os₂ (refusal e.at m e.number) z)
+  pub goes_stop : (os os₁ os₂ : List Opened) (at : Place) (l : Ledger) (e r : Taken) {x : Refused} → Goes k os at l os₁ e → e.came ≡ Err x → r.came ≡ Err x → Goes k os at l os₂ r
+  goes_stop os os₁ os₂ at l e r g z y = g ∙ goes_nowhere os₁ e z ∙ sym (goes_nowhere os₂ r y)
+
+  -- a code that is no rule's
+  module _ (os : List Opened) (at : Place) (l : Ledger) where
+    misses : (t : Std.Result Rule NoCode) {x : Refused} → Derivation.rule (rule_code k at) ≡ meant t → rule_or at t ≡ Err x → Check.take_rule K (there os at l) ≡ stop (refusal x)
+    unfolding rule_or Check.take_rule Check.follow Check.fits Derivation.next_rule Derivation.next_array Derivation.next_stream Check.at because need ◌>>=◌ misfit
+    misses (Ok r) d e = absurd (cc)
+    misses (Err n) {x} d e =
+        let same : refused at DoesNotFit ≡ x = cc in
+        ap (λ r. Check.at (there os at l) (Check.follow K (there os at l) r (array_there k at) (stream_there k at))) d ∙ ap (λ x. stop (refusal x)) same
+
+    pub goes_missing : (r : Taken) {x : Refused} → at.rule < k.counts.d → due k at ≡ Err x → r.came ≡ Err x → Goes k os at l os r
+    unfolding ◌>>=◌
+    goes_missing r h e y =
+        walk_take K (there os at l) (omega (arith, h, rule_count k.file.now k.counts))
+        ∙ ap (λ x. x >>= walk_on K) (misses (ruled (rule_code k at)) (decoded (rule_code k at)) e)
+        ∙ sym (goes_nowhere os r y)
 
   -- ---- where a block stops
 
-  -- how much of the programs is left
-  arrays_left : (at : At) → at.array < c.s → leb (length K.array_program) at.array ≡ false
-  arrays_left at h = lt-leb (length K.array_program) at.array (omega (arith, h, array_count file c))
-
-  arrays_done : (at : At) → c.s ≤ at.array → leb (length K.array_program) at.array ≡ true
-  arrays_done at h = le-leb (length K.array_program) at.array (omega (arith, h, array_count file c))
-
-  streams_left : (at : At) → at.stream < c.t → leb (length K.stream_program) at.stream ≡ false
-  streams_left at h = lt-leb (length K.stream_program) at.stream (omega (arith, h, stream_count file c))
-
-  streams_done : (at : At) → c.t ≤ at.stream → leb (length K.stream_program) at.stream ≡ true
-  streams_done at h = le-leb (length K.stream_program) at.stream (omega (arith, h, stream_count file c))
-
-  -- the derivation is over
-  module _ (w : Taken) (h : c.d ≤ w.at.rule) (os : List Opened) where
-    abbrev pub ending : Bool → Bool → Bool → Result ℕ (Unit {0})
-    ending a s o = do
-      _ ← need 17 (a && s)
+  -- the derivation is over; `d` says whether both programs are
+  module _ (at : Place) (l : Ledger) (h : k.counts.d ≤ at.rule) (os : List Opened) where
+    abbrev pub ending : Bool → Bool → Result ℕ (Unit {0})
+    ending d o = do
+      _ ← need 17 d
       _ ← need 18 o
-      need 19 (Check.all_counted K (at_place os w).ledger)
+      need 19 (Check.all_counted K (there os at l).ledger)
 
-    over_with : {a s o : Bool} → leb (length K.array_program) w.at.array ≡ a → leb (length K.stream_program) w.at.stream ≡ s → no_block os ≡ o
-        → walk_on K (at_place os w) ≡ Check.at (at_place os w) (ending a s o)
+    over_with : {d t o : Bool} → d ≡ (leb k.counts.s at.array && leb k.counts.t at.stream) → d ≡ t → no_block os ≡ o → walk_on K (there os at l) ≡ Check.at (there os at l) (ending t o)
     unfolding finish
-    over_with e f g = walk_over K (at_place os w) (omega (arith, h, rule_count file c)) ∙ (λ i. Check.at (at_place os w) (ending (e i) (f i) (g i)))
+    over_with {d} {t} done e f =
+        let p : (leb (length K.array_program) at.array && leb (length K.stream_program) at.stream) ≡ t =
+        (λ i. leb (array_count k.file.now k.counts i) at.array && leb (stream_count k.file.now k.counts i) at.stream) ∙ sym done ∙ e in
+        walk_over K (there os at l) (omega (arith, h, rule_count k.file.now k.counts)) ∙ (λ i. Check.at (there os at l) (ending (p i) (f i)))
 
-    pub over_done : {o : Bool} → c.s ≤ w.at.array → c.t ≤ w.at.stream → no_block os ≡ o → walk_on K (at_place os w) ≡ Check.at (at_place os w) (ending true true o)
-    over_done k l o = over_with (arrays_done w.at k) (streams_done w.at l) o
+    pub over_done : {o : Bool} → k.counts.s ≤ at.array → k.counts.t ≤ at.stream → no_block os ≡ o → walk_on K (there os at l) ≡ Check.at (there os at l) (ending true o)
+    over_done s t f = over_with refl (and_true (le-leb _ _ s) (le-leb _ _ t)) f
 
-  -- an else or an end where no block is open
-  stray_takes : (w : Taken) → Closing (rule_code file c w.at) → Check.take_rule K (at_place [] w) ≡ stop (refused_at (at_place [] w) 10)
-  unfolding Check.effect Check.at_else Check.at_end Check.at because S.rule
-  stray_takes w (inl e) = misplaced file c [] w.at w.ledger 9 e refl
-  stray_takes w (inr e) = misplaced file c [] w.at w.ledger 10 e refl
+  module _ (inside : Bool) (at : Place) (l : Ledger) where
+    stops_with : {r : Reached} (m : Misfit) → r ≡ Err (refused at m) → ((os : List Opened) → no_block os ≡ not inside → walk_on K (there os at l) ≡ stop (refusal (refused at m))) → Stops k inside at l r
+    stops_with {r} m e g = ((λ os o. g os o ∙ sym (goes_nowhere os (with_ledger r l) e)), λ to q. refuses e q)
 
-  module _ (inside : Bool) (w : Taken) {r : Reached} where
-    stops_with : {number : ℕ} → eqb number 0 ≡ false → r ≡ record { number = number; at = w.at } → ((os : List Opened) → no_block os ≡ not inside → walk_on K (at_place os w) ≡ stop (refused_at (at_place os w) number)) → Stops file c inside w (with_ledger r w.ledger)
-    stops_with {number} z e g =
-        ((λ os o. g os o ∙ sym (ap (λ r. taken c.a c.b os (with_ledger r w.ledger) >>= walk_on K) e ∙ goes_nowhere os (refusal w.at w.ledger number) (refuses {at = w.at} z refl))), refuses z e)
+    -- a block that stops just where it stands
+    stands : {r : Reached} → r ≡ Ok at → Rests k inside at → Stops k inside at l r
+    stands q s = ((λ os o. subst (λ r. Goes k os at l os (with_ledger r l)) (sym q) (goes_none os at l)), λ to p. by (same_place (sym q ∙ p)))
+      where
+        by : {to : Place} → at ≡ to → (to ≡ at) × Rests k inside to
+        by e = (sym e, subst (Rests k inside) e s)
 
-    module _ (h : c.d ≤ w.at.rule) where
-      pub over_array : w.at.array < c.s → r ≡ record { number = 17; at = w.at } → Stops file c inside w (with_ledger r w.ledger)
-      unfolding Check.at because need ◌>>=◌
-      over_array l e = stops_with refl e (λ os o. over_with w h os (arrays_left w.at l) refl refl)
+    module _ (h : k.counts.d ≤ at.rule) (d : Bool) (done : d ≡ (leb k.counts.s at.array && leb k.counts.t at.stream)) where
+      pub over_left : {r : Reached} → d ≡ false → r ≡ Err (refused at StatementsLeft) → Stops k inside at l r
+      unfolding Check.at because need ◌>>=◌ misfit
+      over_left e q = stops_with StatementsLeft q (λ os o. over_with at l h os done e refl)
 
-      pub over_stream : c.s ≤ w.at.array → w.at.stream < c.t → r ≡ record { number = 17; at = w.at } → Stops file c inside w (with_ledger r w.ledger)
-      unfolding Check.at because need ◌>>=◌
-      over_stream k l e = stops_with refl e (λ os o. over_with w h os (arrays_done w.at k) (streams_left w.at l) refl)
+      pub over_block : {r : Reached} → d ≡ true → not inside ≡ false → r ≡ Err (refused at BlockOpen) → Stops k inside at l r
+      unfolding Check.at because need ◌>>=◌ misfit
+      over_block e b q = stops_with BlockOpen q (λ os o. over_with at l h os done e (o ∙ b))
 
-      pub over_block : c.s ≤ w.at.array → c.t ≤ w.at.stream → inside ≡ true → r ≡ record { number = 18; at = w.at } → Stops file c inside w (with_ledger r w.ledger)
-      unfolding Check.at because need ◌>>=◌
-      over_block k l b e = stops_with refl e (λ os o. over_done w h os k l (o ∙ ap not b))
+      -- the code's flag says whether a block is open
+      pub over_stands : {r : Reached} → d ≡ true → not inside ≡ true → r ≡ Ok at → Stops k inside at l r
+      unfolding Rests
+      over_stands e b q =
+          let both = sym done ∙ e in
+          let s = leb-true k.counts.s at.array (and_left _ _ both) in
+          let t = leb-true k.counts.t at.stream (and_right _ _ both) in
+          stands q (subst (λ inside. Rests k inside at) (sym (not-true inside b)) (h, s, t))
 
-    pub stray : w.at.rule < c.d → Closing (rule_code file c w.at) → not inside ≡ true → r ≡ record { number = 10; at = w.at } → Stops file c inside w (with_ledger r w.ledger)
+    stray_takes : Closing k at → Check.take_rule K (there [] at l) ≡ stop (refusal (refused at DoesNotFit))
+    unfolding Check.effect Check.at_else Check.at_end Check.at because misfit rule
+    stray_takes (inl e) = misplaced k [] at l Else e refl
+    stray_takes (inr e) = misplaced k [] at l End e refl
+
+    -- an else or an end where no block is open
+    pub stray : {r : Reached} → at.rule < k.counts.d → Closing k at → inside ≡ false → r ≡ Err (refused at DoesNotFit) → Stops k inside at l r
     unfolding ◌>>=◌
-    stray h k b e = stops_with refl e (λ os o.
-        ap (λ os. walk_on K (at_place os w)) (none_open os (o ∙ b))
-        ∙ walk_take K (at_place [] w) (omega (arith, h, rule_count file c))
-        ∙ ap (λ x. x >>= walk_on K) (stray_takes w k)
-        ∙ ap (λ os. stop (refused_at (at_place os w) 10)) (sym (none_open os (o ∙ b))))
+    stray h c b q = stops_with DoesNotFit q (λ os o.
+        ap (λ os. walk_on K (there os at l)) (none_open os (o ∙ ap not b))
+        ∙ walk_take K (there [] at l) (omega (arith, h, rule_count k.file.now k.counts))
+        ∙ ap (λ x. x >>= walk_on K) (stray_takes c))
 
-  -- the code's flag says whether a block is open
-  pub rests_over : (inside : Bool) (at : At) → inside ≡ false → c.d ≤ at.rule → c.s ≤ at.array → c.t ≤ at.stream → Rests file c inside at
-  unfolding Rests
-  rests_over inside at e h k l = subst (λ inside. Rests file c inside at) (sym e) (h, k, l)
+    pub closes : {r : Reached} → at.rule < k.counts.d → Closing k at → inside ≡ true → r ≡ Ok at → Stops k inside at l r
+    unfolding Rests
+    closes h c b q = stands q (subst (λ inside. Rests k inside at) (sym b) (h, c))
 
-  pub rests_inside : (inside : Bool) (at : At) → inside ≡ true → at.rule < c.d → Closing (rule_code file c at) → Rests file c inside at
-  unfolding Rests
-  rests_inside inside at e h k = subst (λ inside. Rests file c inside at) (sym e) (h, k)
-
-  pub comes_inside : (at : At) → Rests file c true at → (at.rule < c.d) × Closing (rule_code file c at)
+  pub comes_inside : (at : Place) → Rests k true at → (at.rule < k.counts.d) × Closing k at
   unfolding Rests
   comes_inside at h = h
 
-  pub comes_over : (at : At) → Rests file c false at → (c.d ≤ at.rule) × (c.s ≤ at.array) × (c.t ≤ at.stream)
+  pub comes_over : (at : Place) → Rests k false at → (k.counts.d ≤ at.rule) × (k.counts.s ≤ at.array) × (k.counts.t ≤ at.stream)
   unfolding Rests
   comes_over at h = h
-
-  -- a block that stops just where it stands
-  pub stands : (inside : Bool) (at : At) (l : List ℤ) {r : Reached} → r ≡ record { number = 0; at = at } → Rests file c inside at → Stops file c inside (standing at l) (with_ledger r l)
-  stands inside at l e s =
-      ((λ os o. subst (λ r. Goes file c os (standing at l) os (with_ledger r l)) (sym e) (goes_none os (standing at l) refl)), λ z. (ap (λ r. with_ledger r l) e, subst (λ (r : Reached). Rests file c inside r.at) (sym e) s))

@@ -1,5 +1,5 @@
 -- The walk over a derivation, as the code of the check goes on with it.
-use Rattle.std.specs.Prelude.{ℕ, ◌≤◌, ◌<◌, ◌≡◌, Bool, true, false, not, List, ℤ}
+use Rattle.std.specs.Prelude.{◌≤◌, ◌<◌, ◌≡◌, Bool, true, false, not, List, Ok}
 use Rattle.numbers.specs.Result.{◌>>=◌}
 use Rattle.forms.specs.Form.{Loop}
 use Rattle.forms.specs.declared.Loops.{Loops}
@@ -7,46 +7,47 @@ use Rattle.forms.specs.Code.{Turning}
 use Rattle.kernel.specs.Reading.{Open, open_loops}
 use Rattle.kernel.specs.Derivation.{Opened, loops}
 use Rattle.kernel.specs.Check.{walk_on, no_block}
-use Rattle.parts.specs.declared.Counts.{Counts}
-use Rattle.parts.specs.Parts.{kernel, ReadAs}
+use Rattle.kernel.specs.declared.codes.Rule.{Rule}
+use Rattle.kernel.specs.declared.codes.Rule.TheVariants.{Else, End}
+use Rattle.parts.specs.declared.Kernel.{Kernel}
+use Rattle.check_ledger.specs.declared.Ledger.{Ledger}
 use Rattle.check_take.specs.declared.Place.{Place}
-use Rattle.check_take.specs.View.{Taken, place, taken, Stood, rule_code, Closing, ReadsOn}
+use Rattle.check_take.specs.View.{held_by, Reached, Taken, with_ledger, place, taken, Stood, AtRule, due, Closing, ReadsOn}
 
--- from w on the definition's walk with os open goes on as from r on with os' open, or is refused as r says
-abbrev pub Goes : List ℕ → Counts → (os : List Opened) → Taken → (os' : List Opened) → Taken → Type 0
-Goes file c os w os' r = walk_on (kernel file c) (place c.a c.b os w.at w.ledger) ≡ (taken c.a c.b os' r >>= walk_on (kernel file c))
+-- from there on the definition's walk with os open goes on as from where r leaves it with os' open, or is refused as r says
+abbrev pub Goes : Kernel → (os : List Opened) → Place → Ledger → (os' : List Opened) → Taken → Type 0
+Goes k os at l os' r = walk_on (held_by k) (place k.counts.a k.counts.b os at l) ≡ (taken k.counts.a k.counts.b os' r >>= walk_on (held_by k))
 
 -- where the walk of a block has come to that is not refused: inside another at an else or end, else at the end of all three sections
-unfoldable pub Rests : List ℕ → Counts → (inside : Bool) → Place → Type 0
-Rests file c true at = (at.rule < c.d) × Closing (rule_code file c at)
-Rests file c false at = (c.d ≤ at.rule) × (c.s ≤ at.array) × (c.t ≤ at.stream)
+unfoldable pub Rests : Kernel → (inside : Bool) → Place → Type 0
+Rests k true at = (at.rule < k.counts.d) × Closing k at
+Rests k false at = (k.counts.d ≤ at.rule) × (k.counts.s ≤ at.array) × (k.counts.t ≤ at.stream)
 
 -- what has been passed over on the way here fits, and so does the ledger
-pub record Further (file : List ℕ) (c : Counts) (from at : Place) (l : List ℤ) : Type 0 where
-  pub stood : Stood c at l
+pub record Further (k : Kernel) (from at : Place) (l : Ledger) : Type 0 where
+  pub stood : Stood k.counts at l
   pub further_on : from.rule ≤ at.rule
-  pub reads_on : (opens : List Open) → ReadsOn file c opens from → ReadsOn file c opens at
+  pub reads_on : (opens : List Open) → ReadsOn k opens from → ReadsOn k opens at
 
 -- the array program reads on from there, with as many loops open as are around
-pub record Opens (file : List ℕ) (c : Counts) (at : Place) (ls : Loops) : Type 0 where
+pub record Opens (k : Kernel) (at : Place) (ls : Loops) : Type 0 where
   pub opens : List Open
-  pub reads_on : ReadsOn file c opens at
+  pub reads_on : ReadsOn k opens at
   pub level : open_loops opens ≡ ls.count
 
--- the walk stops at w, or is refused there as r says; some block is open just where `inside` says so
-abbrev pub Stops : List ℕ → Counts → (inside : Bool) → Taken → Taken → Type 0
-Stops file c inside w r = ((os : List Opened) → no_block os ≡ not inside → Goes file c os w os r) × (r.number ≡ 0 → (r ≡ w) × Rests file c inside r.at)
+-- the walk stops there, or is refused there as r says; some block is open just where `inside` says so
+abbrev pub Stops : Kernel → (inside : Bool) → Place → Ledger → Reached → Type 0
+Stops k inside at l r = ((os : List Opened) → no_block os ≡ not inside → Goes k os at l os (with_ledger r l)) × ((to : Place) → r ≡ Ok to → (to ≡ at) × Rests k inside to)
 
--- the rules of a block have been walked from w to r, with these loops around
-abbrev pub BlockWalked : List ℕ → Counts → (around : List Loop) → (inside : Bool) → Taken → Taken → Type 0
-BlockWalked file c around inside w r =
-    ((os : List Opened) → loops os ≡ around → no_block os ≡ not inside → Goes file c os w os r) × (r.number ≡ 0 → Further file c w.at r.at r.ledger × Rests file c inside r.at)
+-- the rules of a block have been walked from there to r, with these loops around
+abbrev pub BlockWalked : Kernel → (around : List Loop) → (inside : Bool) → Place → Ledger → Taken → Type 0
+BlockWalked k around inside at l r =
+    ((os : List Opened) → loops os ≡ around → no_block os ≡ not inside → Goes k os at l os r) × ((to : Place) → r.came ≡ Ok to → Further k at to r.ledger × Rests k inside to)
 
--- a rule of this code, neither an else nor an end, stands at w, and the file reads
-abbrev pub RuleDue : List ℕ → Counts → Taken → Loops → (code : ℕ) → Type 0
-RuleDue file c w ls code =
-    ReadAs file c × Stood c w.at w.ledger × (w.at.rule < c.d) × Turning ls × (ls.count ≤ 4) × Opens file c w.at ls × (code ≡ rule_code file c w.at) × (Closing code → ⊥)
+-- this rule, neither an else nor an end, stands there
+abbrev pub RuleDue : Kernel → Place → Ledger → Loops → Rule → Type 0
+RuleDue k at l ls rule = AtRule k.counts at l × Turning ls × (ls.count ≤ 4) × Opens k at ls × (due k at ≡ Ok rule) × (rule ≡ Else → ⊥) × (rule ≡ End → ⊥)
 
--- it has been walked from w to r, a for or an if with all inside it
-abbrev pub RuleWalked : List ℕ → Counts → (around : List Loop) → Taken → Taken → Type 0
-RuleWalked file c around w r = ((os : List Opened) → loops os ≡ around → Goes file c os w os r) × (r.number ≡ 0 → Further file c w.at r.at r.ledger × (w.at.rule < r.at.rule))
+-- it has been walked from there to r, a for or an if with all inside it
+abbrev pub RuleWalked : Kernel → (around : List Loop) → Place → Ledger → Taken → Type 0
+RuleWalked k around at l r = ((os : List Opened) → loops os ≡ around → Goes k os at l os r) × ((to : Place) → r.came ≡ Ok to → Further k at to r.ledger × (at.rule < to.rule))

@@ -1,138 +1,126 @@
 // The walk over the derivation: check of a block and check of a rule call each other, derivation records left falling.
 #![tactic(auto)]
 
-ghost use Rattle.std.specs.Prelude.{List, ℕ, ◌≤◌, ◌<◌, ℤ};
+ghost use Rattle.std.specs.Prelude.{◌≡◌, ◌≤◌, ◌<◌, Ok};
 ghost use Rattle.forms.specs.Code.{loops, Turning};
-ghost use Rattle.parts.specs.Parts.{ReadAs};
-ghost use Rattle.check_take.specs.View.{standing, with_ledger, Stood, rule_code, Closing, Plain};
+ghost use Rattle.parts.specs.declared.Kernel as Code;
+ghost use Rattle.check_ledger.specs.declared.Ledger.{Ledger};
+ghost use Rattle.check_take.specs.View.{with_ledger, Stood, AtRule, due, Closing, Plain};
 ghost use Rattle.check_walk.specs.View.{Opens, Stops, BlockWalked, RuleDue, RuleWalked};
 
-use check_ledger::Entries;
-use check_take::{Place, Reached};
+use check_ledger::Ledger;
+use check_rows::HoldRows;
+use check_take::{Place, Refused};
 use forms::Loops;
-use parts::Counts;
+use kernel::codes::Rule;
+use kernel::refusals::Misfit;
+use parts::Kernel;
 
 // ---- where a block stops
 
 // The derivation is over: 17 where a statement is left, 18 where a block is open.
-fn over(c: Counts, at: Place, inside: bool) -> Reached
-    requires { c.d ≤ at.rule }
-    ensures { (file : List ℕ) (l : List ℤ) → Stops file c inside (standing at l) (with_ledger result l) }
+fn over(kernel: Kernel, at: Place, inside: bool) -> Result<Place, Refused>
+    requires { kernel.counts.d ≤ at.rule }
+    ensures { (l : Ledger) → Stops kernel.entry inside at l result }
 {
-    if at.array < c.s {
-        return check_take::stays(at, kernel::STATEMENTS_LEFT);
-    }
-    if at.stream < c.t {
-        return check_take::stays(at, kernel::STATEMENTS_LEFT);
-    }
-    if inside {
-        return check_take::stays(at, kernel::BLOCK_OPEN);
-    }
-    check_take::stays(at, 0)
+    let c = kernel.counts;
+    let done = at.array >= c.s && at.stream >= c.t;
+    at.need(Misfit::StatementsLeft, done)?;
+    at.need(Misfit::BlockOpen, !inside)?;
+    Ok(at)
 }
 
 // An else or an end: 10 where no block is open.
-fn closing(at: Place, inside: bool) -> Reached
-    ensures { (file : List ℕ) (c : Counts) (l : List ℤ) → at.rule < c.d → Closing (rule_code file c at) → Stops file c inside (standing at l) (with_ledger result l) }
+fn closing(at: Place, inside: bool) -> Result<Place, Refused>
+    ensures { (k : Code.Kernel) (l : Ledger) → at.rule < k.counts.d → Closing k at → Stops k inside at l result }
 {
-    if !inside {
-        return check_take::stays(at, kernel::DOES_NOT_FIT);
-    }
-    check_take::stays(at, 0)
+    at.need(Misfit::DoesNotFit, inside)?;
+    Ok(at)
 }
 
 // ---- the walk, with the lent ledger
 
-// Takes plain rules one after another, up to one that opens or closes a block.
-fn check_plain(file: &[u8], c: Counts, from: Place, l: &mut Entries, ls: Loops) -> Reached
-    requires { ReadAs file.now c × Stood c from l.old × (from.rule < c.d) × Turning ls × Plain (rule_code file.now c from) }
-    ensures { RuleWalked file.now c (loops ls) (standing from l.old) (with_ledger result l.new) }
+// Takes plain rules one after another, this one first, up to one that opens or closes a block.
+fn check_plain(
+    kernel: Kernel,
+    from: Place,
+    first: Rule,
+    l: &mut Ledger,
+    ls: Loops,
+) -> Result<Place, Refused>
+    requires { AtRule kernel.counts from l.old × Turning ls × (due kernel from ≡ Ok first) × Plain first }
+    ensures { RuleWalked kernel.entry (loops ls) from l.old (with_ledger result l.new) }
 {
-    let mut at = from;
-    while at.rule < c.d {
-        let code = check_take::code_next(file, c, at);
-        if numbers::between(kernel::codes::FOR_RULE, kernel::codes::END_RULE, code) {
-            return check_take::stays(at, 0);
+    let mut to = check_take::plain(kernel, from, first, l, ls)?;
+    // A `while`: where the next rule stands is what a rule comes to.
+    while to.rule < kernel.counts.d {
+        match check_take::rule_next(kernel, to)? {
+            Rule::For | Rule::If | Rule::Else | Rule::End => return Ok(to),
+            rule => to = check_take::plain(kernel, to, rule, l, ls)?,
         }
-        let r = check_take::plain(file, c, at, l, ls, code);
-        if r.number != 0 {
-            return r;
-        }
-        at = r.at;
     }
-    check_take::stays(at, 0)
+    Ok(to)
 }
 
 // Takes the rules of a block one after another, up to its else or end; outside all blocks up to the end of the derivation.
 #[cycle(check_block_check_rule)]
 pub fn check_block(
-    file: &[u8],
-    c: Counts,
+    kernel: Kernel,
     from: Place,
-    l: &mut Entries,
+    l: &mut Ledger,
     ls: Loops,
     inside: bool,
-) -> Reached
-    requires { ReadAs file.now c × Stood c from l.old × Turning ls × (ls.count ≤ 4) × Opens file.now c from ls }
-    ensures { BlockWalked file.now c (loops ls) inside (standing from l.old) (with_ledger result l.new) }
+) -> Result<Place, Refused>
+    requires { Stood kernel.counts from l.old × Turning ls × (ls.count ≤ 4) × Opens kernel from ls }
+    ensures { BlockWalked kernel.entry (loops ls) inside from l.old (with_ledger result l.new) }
 {
     let mut at = from;
-    while at.rule < c.d {
-        let code = check_take::code_next(file, c, at);
-        if numbers::between(kernel::codes::ELSE_RULE, kernel::codes::END_RULE, code) {
-            return closing(at, inside);
+    // A `while`: where the next rule stands is what a rule comes to.
+    while at.rule < kernel.counts.d {
+        match check_take::rule_next(kernel, at)? {
+            Rule::Else | Rule::End => return closing(at, inside),
+            rule => at = check_rule(kernel, at, rule, l, ls)?,
         }
-        let r = check_rule(file, c, at, l, ls, code);
-        if r.number != 0 {
-            return r;
-        }
-        at = r.at;
     }
-    over(c, at, inside)
+    over(kernel, at, inside)
 }
 
 // Takes a rule: a for or an if with all inside it, a plain one with those after it. What a for's rows state is kept for the end of its body, and the
 // ledger at an if for its else.
 #[cycle(check_block_check_rule)]
-fn check_rule(file: &[u8], c: Counts, at: Place, l: &mut Entries, ls: Loops, code: u32) -> Reached
-    requires { RuleDue file.now c (standing at l.old) ls code }
-    ensures { RuleWalked file.now c (loops ls) (standing at l.old) (with_ledger result l.new) }
+fn check_rule(
+    kernel: Kernel,
+    at: Place,
+    rule: Rule,
+    l: &mut Ledger,
+    ls: Loops,
+) -> Result<Place, Refused>
+    requires { RuleDue kernel at l.old ls rule }
+    ensures { RuleWalked kernel.entry (loops ls) at l.old (with_ledger result l.new) }
 {
-    if code == kernel::codes::FOR_RULE {
-        let e = check_take::enter_for(file, c, at, l, ls);
-        if e.number != 0 {
-            return e;
+    match rule {
+        Rule::For => {
+            let body = check_take::enter_for(kernel, at, l, ls)?;
+            let rows = HoldRows {
+                ledger: *l,
+                arrays: kernel.counts.a,
+                buffers: kernel.counts.b,
+            };
+            let own = check_take::array_next(kernel, at).for_loop();
+            let inner = ls.deeper(own);
+            let end = check_block(kernel, body, l, inner, true)?;
+            check_take::leave_for(kernel, end, l, &rows, own, inner)
         }
-        let rows = *l;
-        let own = parts::loop_of(check_take::array_next(file, c, at));
-        let inner = ls.deeper(own);
-        let v = check_block(file, c, e.at, l, inner, true);
-        if v.number != 0 {
-            return v;
+        Rule::If => {
+            let branch = check_take::enter_if(kernel, at)?;
+            let start = *l;
+            let middle = check_block(kernel, branch, l, ls, true)?;
+            let other = check_take::turn(kernel, middle)?;
+            let first = *l;
+            *l = start;
+            let last = check_block(kernel, other, l, ls, true)?;
+            check_take::leave_if(kernel, last, l, &first, ls)
         }
-        return check_take::leave_for(file, c, v.at, l, &rows, own, inner);
+        _ => check_plain(kernel, at, rule, l, ls),
     }
-    if code == kernel::codes::IF_RULE {
-        let e = check_take::enter_if(file, c, at);
-        if e.number != 0 {
-            return e;
-        }
-        let start = *l;
-        let v = check_block(file, c, e.at, l, ls, true);
-        if v.number != 0 {
-            return v;
-        }
-        let o = check_take::turn(file, c, v.at);
-        if o.number != 0 {
-            return o;
-        }
-        let first = *l;
-        *l = start;
-        let u = check_block(file, c, o.at, l, ls, true);
-        if u.number != 0 {
-            return u;
-        }
-        return check_take::leave_if(file, c, u.at, l, &first, ls);
-    }
-    check_plain(file, c, at, l, ls)
 }

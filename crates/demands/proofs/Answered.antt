@@ -1,20 +1,29 @@
 -- What a call answers and leaves where the file reads and both lengths are right.
 use Prim.Native.Nat.{ℕ, ◌*◌}
 use mathlib.Core.Path.{◌≡◌, refl, ap, ◌∙◌}
+use mathlib.Core.Bool.{◌&&◌, true}
 use mathlib.Core.List.{List}
+use lib.Dec.{eqb}
 use lib.ListN.{length}
 use borrow.Author.Tests.{eq-eqb}
-use Rattle.numbers.specs.Result.{Result, ok}
+use Rattle.std.specs.Prelude as Std
+use Rattle.std.specs.Prelude.{Ok, Err}
+use Rattle.numbers.specs.Result.{Result, ok, ◌>>=◌, need}
 use Rattle.numbers.specs.Words.{words, bytes}
 use Rattle.numbers.proofs.Tests.{and_true}
 use Rattle.kernel.specs.File.{Kernel}
-use Rattle.kernel.specs.Reading.{Fault, read_file}
+use Rattle.kernel.specs.Reading.{Fault, fault, read_file}
 use Rattle.kernel.specs.Memory as Memory
 use Rattle.kernel.specs.Memory.{on_areas, afterwards}
-use Rattle.run_calls.specs.declared.Done.{Done}
-use Rattle.run_calls.specs.declared.Done.TheVariants.{Refused, Finished}
-use Rattle.run_calls.specs.View.{Answer, answer_of, finished, done}
-use Rattle.run_calls.proofs.Calls.{call_reads, right_lengths}
+use Rattle.run_calls.specs.declared.NotRun.{NotRun}
+use Rattle.run_calls.specs.View.{Answer, answer_of, finished, done, on_kernel}
+use Rattle.run_calls.proofs.Calls.{call_reads}
+
+-- both lengths are right
+right_lengths : {A : Type 0} (from to : Kernel → ℕ) (makes : Kernel → List ℕ → A) (K : Kernel) (first second : List ℕ) → (eqb (length first) (4 * from K) && eqb (length second) (4 * to K)) ≡ true
+    → on_kernel from to makes K first second ≡ ok (makes K (words first))
+unfolding on_kernel need ◌>>=◌
+right_lengths from to makes K first second e = ap (λ t. need (fault 21 0 0) t >>= λ _. ok (makes K (words first))) e
 
 -- its work is done
 pub works : {A : Type 0} (from to : Kernel → ℕ) (makes : Kernel → List ℕ → A) (file first second : List ℕ) (K : Kernel) → read_file file ≡ ok K
@@ -30,12 +39,12 @@ pub run_answer : {r : Result Fault Memory.Ran} {t : Result Fault Answer} (m : Me
 unfolding answer_of
 run_answer m h e = h ∙ ap answer_of e
 
-is_finished : (a : Done) → done a ≡ ok tt → a ≡ Finished
+is_finished : (a : Std.Result Unit NotRun) → done a ≡ ok tt → a ≡ Ok tt
 unfolding done
-is_finished (Refused number section place) e = cc
-is_finished Finished e = refl
+is_finished (Err why) e = cc
+is_finished (Ok t) e = refl
 
-pub move_finished : {r : Result Fault (List ℕ)} (a : Done) (m : List ℕ) → done a ≡ finished r → r ≡ ok m → a ≡ Finished
+pub move_finished : {r : Result Fault (List ℕ)} (a : Std.Result Unit NotRun) (m : List ℕ) → done a ≡ finished r → r ≡ ok m → a ≡ Ok tt
 unfolding finished
 move_finished a m h e = is_finished a (h ∙ ap finished e)
 

@@ -1,6 +1,6 @@
 -- The three demands, of what this code answers and leaves in lent memory: the promises of the calls, and no more, are what they speak of. That
 -- every call takes every input and ends is in the contracts themselves: the five functions that promise this have no `requires`.
-use Rattle.std.specs.Prelude.{ℕ, ◌*◌, ◌≡◌, ◌↔◌, List, length}
+use Rattle.std.specs.Prelude.{ℕ, ◌*◌, ◌≡◌, ◌↔◌, List, length, Result, Ok, Err}
 use Rattle.numbers.specs.Result.{ok}
 use Rattle.numbers.specs.Areas.{AllBelow}
 use Rattle.kernel.specs.File.{Kernel, input, output, length_of, count_of}
@@ -10,22 +10,20 @@ use Rattle.kernel.specs.Memory.{total, ended}
 use Rattle.agreement.specs.Agreement.{SticksAlike}
 use Rattle.agreement.specs.Exactness.{FirstBad}
 use Rattle.run_calls.specs.declared.Ran.{Ran}
-use Rattle.run_calls.specs.declared.Done.{Done}
+use Rattle.run_calls.specs.declared.NotRun.{NotRun}
 use Rattle.run_calls.specs.View.{Answer, answer}
 use Rattle.run_calls.specs.Promises.{ArrayRun, StreamRun, LayOut, PutBack}
 use Rattle.check_file.specs.declared.Refusal.{Refusal}
-use Rattle.check_file.specs.declared.Checked.{Checked}
+use Rattle.check_file.specs.declared.NotAccepted.{NotAccepted}
+use Rattle.check_file.specs.declared.NotAccepted.TheVariants.{Refused}
 use Rattle.check_file.specs.View.{refusal}
 use Rattle.check_file.specs.Promises.{Checks}
 
 -- ---- demand 1: lent memory
 
 -- which answers refuse
-abbrev pub RunRefused : Ran → Type 0
-RunRefused a = (number : ℕ) × (section : ℕ) × (place : ℕ) × (a ≡ Ran.Refused number section place)
-
-abbrev pub MoveRefused : Done → Type 0
-MoveRefused a = (number : ℕ) × (section : ℕ) × (place : ℕ) × (a ≡ Done.Refused number section place)
+abbrev pub Refuses : {A : Type 0} → Result A NotRun → Type 0
+Refuses a = (why : NotRun) × (a ≡ Err why)
 
 -- of a call's promise, for a file, the memory read, the memory written as it was before, the answer, and the memory afterwards
 pub record Keeps {A : Type 0} (Call : (file given before : List ℕ) → A → (after : List ℕ) → Type 0) (Refusal : A → Type 0) : Type 0 where
@@ -36,21 +34,21 @@ pub record Keeps {A : Type 0} (Call : (file given before : List ℕ) → A → (
       → Call file given before a x → Call file given other b y → (a ≡ b) × ((Refusal a → ⊥) → x ≡ y)
 
 pub record Demand1 : Type 0 where
-  pub array_run : Keeps ArrayRun RunRefused
-  pub stream_run : Keeps StreamRun RunRefused
-  pub laying_out : Keeps LayOut MoveRefused
-  pub putting_back : Keeps PutBack MoveRefused
+  pub array_run : Keeps ArrayRun Refuses
+  pub stream_run : Keeps StreamRun Refuses
+  pub laying_out : Keeps LayOut Refuses
+  pub putting_back : Keeps PutBack Refuses
 
 -- ---- demand 2: the check
 
-pub record Judges (K : Kernel) (checked : Checked) : Type 0 where
+pub record Judges (K : Kernel) (checked : Result Unit NotAccepted) : Type 0 where
   -- "accepts exactly the files whose derivation follows document 01's rules"
-  pub exactly : checked ≡ Checked.Accepted ↔ Derived K
+  pub exactly : checked ≡ Ok tt ↔ Derived K
   -- "otherwise it names the first bad rule and that rule's lowest refusal"
-  pub first_bad : (r : Refusal) → checked ≡ Checked.Refused r → FirstBad K (refusal r)
+  pub first_bad : (r : Refusal) → checked ≡ Err (Refused r) → FirstBad K (refusal r)
 
 abbrev pub Demand2 : Type 0
-Demand2 = (file : List ℕ) (checked : Checked) → Checks file checked → (K : Kernel) → read_file file ≡ ok K → Judges K checked
+Demand2 = (file : List ℕ) (checked : Result Unit NotAccepted) → Checks file checked → (K : Kernel) → read_file file ≡ ok K → Judges K checked
 
 -- ---- demand 3: the two runs
 
@@ -58,19 +56,19 @@ Demand2 = (file : List ℕ) (checked : Checked) → Checks file checked → (K :
 -- copies `memory` into `streams`; the stream run reads these and leaves `items`; putting back copies those into `back`.
 pub record Job : Type 0 where
   pub file : List ℕ
-  pub checked : Checked
+  pub checked : Result Unit NotAccepted
   pub memory : List ℕ
   pub outputs_before : List ℕ
-  pub array : Ran
+  pub array : Result Ran NotRun
   pub outputs : List ℕ
   pub streams_before : List ℕ
-  pub laid : Done
+  pub laid : Result Unit NotRun
   pub streams : List ℕ
   pub items_before : List ℕ
-  pub stream : Ran
+  pub stream : Result Ran NotRun
   pub items : List ℕ
   pub back_before : List ℕ
-  pub placed : Done
+  pub placed : Result Unit NotRun
   pub back : List ℕ
 
 -- the five calls keep their promises
@@ -95,8 +93,8 @@ pub record Agreed (K : Kernel) (j : Job) (array stream : Answer) : Type 0 where
   -- no call is refused
   pub array_answer : answer j.array ≡ ok array
   pub stream_answer : answer j.stream ≡ ok stream
-  pub all_laid : j.laid ≡ Done.Finished
-  pub all_placed : j.placed ≡ Done.Finished
+  pub all_laid : j.laid ≡ Ok tt
+  pub all_placed : j.placed ≡ Ok tt
   -- "the array run ends exactly when the stream run ends"
   pub end_alike : array.ending ≡ ended ↔ stream.ending ≡ ended
   -- "then every input stream is empty, every output stream full"
@@ -110,7 +108,7 @@ pub record Agreed (K : Kernel) (j : Job) (array stream : Answer) : Type 0 where
 
 -- for any file that the check accepts
 abbrev pub Demand3 : Type 0
-Demand3 = (j : Job) → Called j → j.checked ≡ Checked.Accepted → (K : Kernel) → read_file j.file ≡ ok K → Sized K j → (array : Answer) × (stream : Answer) × Agreed K j array stream
+Demand3 = (j : Job) → Called j → j.checked ≡ Ok tt → (K : Kernel) → read_file j.file ≡ ok K → Sized K j → (array : Answer) × (stream : Answer) × Agreed K j array stream
 
 -- ---- all three
 

@@ -11,3 +11,4 @@ pub mod Trees
 pub mod Fitting
 pub mod Walking
 pub mod Digits
+pub mod Named

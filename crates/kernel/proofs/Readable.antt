@@ -11,10 +11,10 @@ use lib.ListN.{length, get_or, drop, replicate, get_or-map}
 use lib.IntN.{ℤ, pos, negsuc, nat_abs, ◌+ℤ◌, ◌-ℤ◌, ◌*ℤ◌, +ℤ_comm, *ℤ_comm, *ℤ-zero, -ℤ-+ℤ_cancel}
 use lib.Signed.{quot_z}
 use borrow.Author.Tests.{eqb-true, leb-true, ltb-true, not-true}
-use Rattle.numbers.specs.Result.{Result, ok, stop}
+use Rattle.numbers.specs.Result.{ok}
 use Rattle.numbers.specs.Lists.{sum, every, alike}
 use Rattle.numbers.specs.Words.{signed, words, between, within, inside, equal}
-use Rattle.numbers.proofs.Results.{On, on_ok, on_stop, on_need, on_then, on_map, on_because}
+use Rattle.numbers.proofs.Results.{On, on_ok, on_stop, on_need, on_then, on_map, on_because, on_at, whatever, on_self}
 use Rattle.numbers.proofs.Tests.{and_left, and_right, and_true, or_cases, each_of, between_range, within_abs, inside_index, equal_eq, eq_equal, every_at}
 use Rattle.numbers.proofs.Order.{abs_mul, abs_sub}
 use Rattle.forms.specs.Form.{coefficient, counter, limit}
@@ -91,7 +91,7 @@ pub record ArraysFit (i o : ℕ) (arrays : List Rec) : Type 0 where
   pub inputs : i + sum (map (only input length_of) arrays) ≤ 8192
   pub outputs : o + sum (map (only output length_of) arrays) ≤ 8192
 
-arrays_say : (n i o : ℕ) (arrays : List Rec) → i ≤ 8192 → o ≤ 8192 → On (λ t. ArraysFit i o arrays) (arrays_fit n i o arrays)
+pub arrays_say : (n i o : ℕ) (arrays : List Rec) → i ≤ 8192 → o ≤ 8192 → On (λ t. ArraysFit i o arrays) (arrays_fit n i o arrays)
 unfolding arrays_fit sum
 arrays_say n i o [] hi ho = on_ok (record { each_one = tt; inputs = omega arith; outputs = omega arith })
 arrays_say n i o (a ∷ rest) hi ho =
@@ -291,11 +291,6 @@ unfolding closed
 closed_none c s n [] = on_ok over
 closed_none c s n (o ∷ os) = on_stop
 
--- a value is its own
-on_self : {E A : Type 0} (m : Result E A) → On (λ a. m ≡ ok a) m
-on_self (ok a) = on_ok refl
-on_self (stop e) = on_stop
-
 statements_say : (c : Scope) (s n : ℕ) (os : List Open) (rs : List Rec) → On (λ t. Nested c os rs) (statements_fit c s n os rs)
 unfolding statements_fit
 statements_say c s n os [] = closed_none c s n os
@@ -418,6 +413,21 @@ file_reads bytes =
       few_rules = counts.derivation.1;
       derivation = rules;
     })
+
+-- its arrays were found right
+pub arrays_found : (bytes : List ℕ) → On (λ (K : Kernel). arrays_fit 0 0 0 K.arrays ≡ ok tt) (read_file bytes)
+unfolding read_file
+arrays_found bytes =
+    on_then _ whatever λ t h.
+    on_then _ whatever λ K counts.
+    on_then _ (on_self (arrays_fit 0 0 0 K.arrays)) λ t e.
+    on_then _ whatever λ t ones.
+    on_then _ whatever λ t twos.
+    on_then _ whatever λ t rules.
+    on_ok e
+
+pub fitting : (arrays : List Rec) → arrays_fit 0 0 0 arrays ≡ ok tt → All ArrayFits arrays
+fitting arrays e = (on_at (arrays_say 0 0 0 arrays (omega arith) (omega arith)) e).each_one
 
 -- ---- an element of a row
 

@@ -12,3 +12,4 @@ pub mod Rules
 pub mod Check
 pub mod Answers
 pub mod Measured
+pub mod Named

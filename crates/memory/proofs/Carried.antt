@@ -1,23 +1,27 @@
 -- What carrying items one after another makes of an area: array by array, laid out, and put back.
 use Prim.Native.Nat.{ℕ, suc, ◌+◌, ◌*◌, ◌-◌, ◌<◌, ◌≤◌}
 use mathlib.Core.Path.{◌≡◌, refl, sym, ap, subst, ◌∙◌}
+use mathlib.Core.Bool.{true, false}
 use mathlib.Core.List.{List, [], ◌∷◌, ◌++◌, map, append-nil, append_assoc}
 use native.Mathlib.Omega.{arith}
 use native.Mathlib.Nat.{add-zero}
 use lib.ListN.{length, get_or, set, drop, replicate, length-append}
 use lib.Seq.{drop-cons}
-use lib.IntN.{ℤ, nat_abs}
+use lib.IntN.{ℤ, pos, nat_abs, ◌+ℤ◌, ◌*ℤ◌}
+use mir.Syntax.{w64}
+use mir.Val.{to_z, SFits}
 use Rattle.numbers.specs.Bounds.{Small}
+use Rattle.numbers.proofs.Signs.{back, small_add, small_mul, sum_back, product_back, back_product, fits, as_it_is}
 use Rattle.numbers.specs.Words.{words, bytes}
 use Rattle.numbers.specs.Areas.{word}
 use Rattle.numbers.proofs.Areas.{words_length, put_bytes, put_next, zeros_bytes}
-use Rattle.kernel.specs.File.{Rec, only, length_of, first_of, count_of, step_of, index}
+use Rattle.kernel.specs.File.{Rec, on, only, length_of, first_of, count_of, step_of, index}
 use Rattle.kernel.specs.Memory.{listed, cells, placed}
 use Rattle.kernel.specs.Guarantees.{ArrayFits}
 use Rattle.kernel.proofs.Orders.{item_inside, listed_length}
-use Rattle.parts.specs.Arrays.{measure}
-use Rattle.parts.specs.declared.Measure.TheVariants.{Cells, Items}
-use Rattle.memory.specs.Items.{nth, Ordered, carried_one, carried}
+use Rattle.memory.specs.declared.Order.{Order}
+use Rattle.memory.specs.Items.{nth, Ordered, carried_one, carried, cell}
+use Rattle.memory.proofs.Rows.{only_here, only_other}
 
 -- ---- rows of cells
 
@@ -32,6 +36,39 @@ module _ (f : ℕ → ℕ) where
   listed_over : (i n : ℕ) → n ≤ i → listed f i (n - i) ≡ []
   unfolding listed
   listed_over i n h = let e : n - i ≡ 0 = omega arith in ap (listed f i) e
+
+-- ---- the cell of an item
+
+-- in 64 bits nothing is lost
+module _ (first step : ℤ) (i : ℕ) (o : Ordered first step i) where
+  item_small : Small 4096 (pos i)
+  item_small = record { abs = omega (arith, o.few) }
+
+  pub product_fits : SFits w64 (back step *ℤ to_z w64 i)
+  product_fits = fits (product_back o.step_small item_small) tt
+
+  pub sum_fits : SFits w64 (back first +ℤ back (back step *ℤ to_z w64 i))
+  sum_fits = fits (sum_back o.first_small (product_back o.step_small item_small)) tt
+
+  pub nth_back : back (back first +ℤ back (back step *ℤ to_z w64 i)) ≡ nth first step i
+  nth_back =
+      (λ k. back (as_it_is o.first_small tt k +ℤ back_product o.step_small item_small tt tt tt k))
+      ∙ as_it_is (small_add o.first_small (small_mul o.step_small item_small)) tt
+
+module _ (a : Rec) (first step : ℤ) (e : first ≡ first_of a) (d : step ≡ step_of a) where
+  pub nth_is : (i : ℕ) → nth first step i ≡ index a i
+  unfolding index
+  nth_is i = λ k. nth (e k) (d k) i
+
+  pub in_order : ArrayFits a → (i : ℕ) → i < count_of a → Ordered first step i
+  in_order f i h =
+      let at = item_inside a f i h in
+      record {
+        first_small = subst (Small 4096) (sym e) (record { abs = omega (arith, f.first_inside, f.short) });
+        step_small = subst (Small 4096) (sym d) (record { abs = f.step_small });
+        few = omega (arith, f.counted, f.short);
+        inside = record { at = at.at; is = nth_is i ∙ at.is; below = omega (arith, at.below, f.short) };
+      }
 
 -- ---- one array after another
 
@@ -58,16 +95,31 @@ module _ (side : ℕ) (from : List ℕ) where
   items_over f item i n to h = ap (λ cs. carried side item cs from to) (sym (listed_over f i n h))
 
   -- an array's items are carried, and those of the arrays that follow are left
-  pub array_next : (item b count long : ℕ) (a : Rec) (arrays rest : List Rec) (to new : List ℕ) → count ≡ only side (measure Items) a → long ≡ only side (measure Cells) a
+  array_next : (item b count long : ℕ) (a : Rec) (arrays rest : List Rec) (to new : List ℕ) → count ≡ only side count_of a → long ≡ only side length_of a
       → new ≡ carried side item (listed (λ i. b + nat_abs (index a i)) 0 count) from to → arrays ≡ a ∷ rest
       → carried side (item + count) (cells side (b + long) rest) from new ≡ carried side item (cells side b arrays) from to
-  unfolding cells measure
+  unfolding cells
   array_next item b count long a arrays rest to new c l e d =
       let cs = listed (λ i. b + nat_abs (index a i)) 0 count in
       (λ k. carried side (item + sym (listed_length (λ i. b + nat_abs (index a i)) 0 count) k) (cells side (b + l k) rest) from (e k))
       ∙ sym (carried_append cs (cells side (b + only side length_of a) rest) item to)
       ∙ (λ k. carried side item (listed (λ i. b + nat_abs (index a i)) 0 (c k) ++ cells side (b + only side length_of a) rest) from to)
       ∙ ap (λ rs. carried side item (cells side b rs) from to) (sym d)
+
+  module _ (a : Rec) (arrays rest : List Rec) (d : arrays ≡ a ∷ rest) where
+    -- of the array that is on the side, its order is carried
+    pub order_next : on side a ≡ true → (o : Order) → o.first ≡ first_of a → o.step ≡ step_of a → o.count ≡ count_of a → (long : ℕ) → long ≡ length_of a → (to new : List ℕ)
+        → new ≡ carried side o.items (listed (cell o) 0 o.count) from to
+        → carried side (o.items + o.count) (cells side (o.cells + long) rest) from new ≡ carried side o.items (cells side o.cells arrays) from to
+    order_next h o f s n long l to new e =
+        array_next o.items o.cells o.count long a arrays rest to new (n ∙ sym (only_here side count_of a h)) (l ∙ sym (only_here side length_of a h))
+        (e ∙ (λ k. carried side o.items (listed (λ i. o.cells + nat_abs (nth_is a o.first o.step f s i k)) 0 o.count) from to)) d
+
+    pub order_other : on side a ≡ false → (item b : ℕ) (to : List ℕ) → carried side item (cells side b rest) from to ≡ carried side item (cells side b arrays) from to
+    unfolding carried listed
+    order_other h item b to =
+        (λ k. carried side (sym (add-zero item) k) (cells side (sym (add-zero b) k) rest) from to)
+        ∙ array_next item b 0 0 a arrays rest to to (sym (only_other side count_of a h)) (sym (only_other side length_of a h)) refl d
 
   pub arrays_over : (item b : ℕ) (arrays : List Rec) (to : List ℕ) → arrays ≡ [] → to ≡ carried side item (cells side b arrays) from to
   unfolding cells carried
@@ -108,20 +160,3 @@ put_from from (c ∷ cs) item ws h =
 -- into a memory of n words that is cleared
 pub put_back : (from cs : List ℕ) (n : ℕ) → length from ≡ 4 * length cs → carried 2 0 cs from (replicate (4 * n) 0) ≡ bytes (placed cs (words from) (replicate n 0))
 put_back from cs n h = ap (carried 2 0 cs from) (zeros_bytes n) ∙ put_from from cs 0 (replicate n 0) (omega (arith, words_length from))
-
--- ---- the cell of an item
-
-module _ (a : Rec) (first step : ℤ) (e : first ≡ first_of a) (d : step ≡ step_of a) where
-  pub nth_is : (i : ℕ) → nth first step i ≡ index a i
-  unfolding index
-  nth_is i = λ k. nth (e k) (d k) i
-
-  pub in_order : ArrayFits a → (i : ℕ) → i < count_of a → Ordered first step i
-  in_order f i h =
-      let at = item_inside a f i h in
-      record {
-        first_small = subst (Small 4096) (sym e) (record { abs = omega (arith, f.first_inside, f.short) });
-        step_small = subst (Small 4096) (sym d) (record { abs = f.step_small });
-        few = omega (arith, f.counted, f.short);
-        inside = record { at = at.at; is = nth_is i ∙ at.is; below = omega (arith, at.below, f.short) };
-      }

@@ -2,11 +2,11 @@
 use Rattle.std.specs.Prelude.{ℕ, suc, ◌+◌, ◌*◌, ◌<◌, ◌≤◌, ◌≡◌, cond, List, [], ◌∷◌, map, eqb, ℤ, pos, nat_abs, ◌+ℤ◌, ◌*ℤ◌, length, get_or, replicate}
 use Rattle.numbers.specs.Bounds.{Small}
 use Rattle.numbers.specs.Areas.{word, put_word}
-use Rattle.kernel.specs.File.{Rec, input, output, count_of, index}
+use Rattle.kernel.specs.File.{Rec, input, output}
 use Rattle.kernel.specs.Memory.{cells, placed}
-use Rattle.kernel.specs.Guarantees.{ArrayFits, Inside}
+use Rattle.kernel.specs.Guarantees.{Inside}
 use Rattle.parts.specs.declared.Measure.TheVariants.{Cells, Items}
-use Rattle.parts.specs.Arrays.{array_at, HasArray}
+use Rattle.memory.specs.declared.Order.{Order}
 use Rattle.memory.specs.Sizes.{total}
 
 -- the index of an order's item i; it lies inside an array
@@ -28,17 +28,15 @@ unfoldable pub carried : (side item : ℕ) → (cells from to : List ℕ) → Li
 carried side item [] from to = to
 carried side item (c ∷ cs) from to = carried side (suc item) cs from (carried_one side item c from to)
 
--- the cell of item i of array j, before which `before` cells stand
-abbrev pub cell : (file : List ℕ) (j before : ℕ) (i : ℕ) → ℕ
-cell file j before i = before + nat_abs (index (array_at file j) i)
+-- the cell of item i of an order
+abbrev pub cell : Order → (i : ℕ) → ℕ
+cell o i = o.cells + nat_abs (nth o.first o.step i)
 
--- the first `count` items of array j are in its order; `items` items and `cells` cells stand before them
-pub record Carries (file : List ℕ) (j count items cells : ℕ) : Type 0 where
-  pub there : HasArray file j
-  pub fits : ArrayFits (array_at file j)
-  pub enough : count ≤ count_of (array_at file j)
-  pub few_items : items ≤ 32768
-  pub few_cells : cells ≤ 32768
+-- each item of an order lies in its array; few items and few cells stand before it
+pub record Carries (o : Order) : Type 0 where
+  pub ordered : (i : ℕ) → i < o.count → Ordered o.first o.step i
+  pub few_items : o.items ≤ 32768
+  pub few_cells : o.cells ≤ 32768
 
 -- what is made of a memory's words by the arrays of a file
 abbrev pub laid_out : (arrays : List Rec) → List ℕ → List ℕ

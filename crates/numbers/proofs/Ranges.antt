@@ -1,7 +1,7 @@
 -- Ranges as the code tests them: a word's signed number within ±n, a number from 0 to n − 1.
 use Rattle.std.proofs.Common.{◌≡◌, ℕ, suc, ◌-◌, ◌^◌, ◌<◌, ◌≤◌, Bool, true, false, ltb, ◌⊎◌, ℤ, pos, negsuc, sym, refl, ap, ◌∙◌, inl, inr, arith, ltb-false, ltb-true, le-ltb, lt-ltb, le-leb}
 use mathlib.Core.Bool.{false≢true}
-use lib.Signed.{lt_z}
+use lib.Signed.{le_z, lt_z}
 use borrow.Author.Tests.{lt-leb}
 use Rattle.numbers.specs.Words.{signed, within, inside}
 use Rattle.numbers.proofs.Signs.{halves, signed_low, signed_high}
@@ -22,12 +22,12 @@ near_high n w h k l = by (halves w)
     by (inl s) = le-ltb (4294967295 - n) w (omega arith) ∙ sym (ap (within n) (signed_low {w = w} s) ∙ lt-leb w n k)
     by (inr s) = by_test (ltb (4294967295 - n) w) refl ∙ sym (ap (within n) (signed_high {w = w} s))
 
-pub below_zero : (n : ℕ) (z : ℤ) → lt_z z (pos 0) ≡ true → false ≡ inside n z
+pub below_zero : (n : ℕ) (z : ℤ) → le_z (pos 0) z ≡ false → false ≡ inside n z
 unfolding inside
-below_zero n (pos i) h = let l : i < 0 = ltb-true i 0 h in absurd (omega arith)
+below_zero n (pos i) h = absurd (false≢true (sym h ∙ le-leb 0 i (omega arith)))
 below_zero n (negsuc i) h = refl
 
-pub from_zero : (n : ℕ) (z : ℤ) → lt_z z (pos 0) ≡ false → lt_z z (pos n) ≡ inside n z
+pub from_zero : (n : ℕ) (z : ℤ) → le_z (pos 0) z ≡ true → lt_z z (pos n) ≡ inside n z
 unfolding inside
 from_zero n (pos i) h = refl
-from_zero n (negsuc i) h = absurd (false≢true (sym h))
+from_zero n (negsuc i) h = absurd (false≢true h)

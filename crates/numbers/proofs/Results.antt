@@ -43,6 +43,11 @@ on_any {m = stop e} h = on_stop
 pub whatever : {E A : Type 0} {m : Result E A} → On (λ a. Unit {0}) m
 whatever = on_any (λ a. tt)
 
+-- that it is this value
+pub on_self : {E A : Type 0} (m : Result E A) → On (λ a. m ≡ ok a) m
+on_self (ok a) = on_ok refl
+on_self (stop e) = on_stop
+
 -- of the value that it is
 pub on_at {ℓ} : {E A : Type 0} {P : A → Type ℓ} {m : Result E A} {a : A} → On P m → m ≡ ok a → P a
 on_at {P} h e = (subst (λ r. On P r) e h).on

@@ -1,17 +1,11 @@
 // 32-bit words: a byte area as a row of them, and what registers do with them.
 #![tactic(auto)]
 
-ghost use Rattle.std.specs.Prelude.{◌≡◌, ◌+◌, ◌*◌, ◌<◌, ◌≤◌, length, slice_index};
+ghost use Rattle.std.specs.Prelude.{◌≡◌, ◌+◌, ◌*◌, ◌<◌, ◌≤◌, length};
 ghost use Rattle.numbers.specs.Words as Words;
 ghost use Rattle.numbers.specs.Areas as Areas;
 
 // ---- a byte area as a row of words, low byte first
-
-fn wide(x: u8) -> u32
-    ensures { (result ≡ x) × (result < 256) }
-{
-    x as u32
-}
 
 // Word i of an area that has it.
 pub fn whole_word(area: &[u8], i: usize) -> u32
@@ -19,10 +13,7 @@ pub fn whole_word(area: &[u8], i: usize) -> u32
     ensures { result ≡ Areas.word area.now i }
 {
     let a = i * 4;
-    wide(area[a])
-        + wide(area[a + 1]) * 256
-        + wide(area[a + 2]) * 65536
-        + wide(area[a + 3]) * 16777216
+    u32::from_le_bytes([area[a], area[a + 1], area[a + 2], area[a + 3]])
 }
 
 // Word i of an area, and 0 past its last.
@@ -30,9 +21,10 @@ pub fn word(area: &[u8], i: usize) -> u32
     ensures { result ≡ Areas.word area.now i }
 {
     if i < area.len() / 4 {
-        return whole_word(area, i);
+        whole_word(area, i)
+    } else {
+        0
     }
-    0
 }
 
 // Word i of an area becomes w; nothing changes past its last.
@@ -41,28 +33,21 @@ pub fn put_word(area: &mut [u8], i: usize, w: u32)
 {
     if i < area.len() / 4 {
         let a = i * 4;
-        area[a] = (w % 256) as u8;
-        area[a + 1] = (w / 256 % 256) as u8;
-        area[a + 2] = (w / 65536 % 256) as u8;
-        area[a + 3] = (w / 16777216 % 256) as u8;
+        let bytes = w.to_le_bytes();
+        area[a] = bytes[0];
+        area[a + 1] = bytes[1];
+        area[a + 2] = bytes[2];
+        area[a + 3] = bytes[3];
     }
-}
-
-// An entry of a table with one for each array.
-pub fn entry(table: &[u32; 8], q: usize) -> u32
-    requires { q < 8 }
-    ensures { result ≡ slice_index table.now q }
-{
-    table[q]
 }
 
 // ---- words and numbers
 
-// The signed number of a word. A sum that wraps and a difference take no branch.
+// The signed number of a word.
 pub fn signed(w: u32) -> i64
     ensures { result ≡ Words.signed w }
 {
-    (std::num::wrapping_add_u32(w, 0x8000_0000) as i64) - 0x8000_0000
+    i64::from(w.cast_signed())
 }
 
 // The low 32 bits of a number.
@@ -78,10 +63,7 @@ pub fn low32(z: i64) -> u32
 pub fn between(low: u32, high: u32, w: u32) -> bool
     ensures { result ≡ Words.between low high w }
 {
-    if w < low {
-        return false;
-    }
-    w <= high
+    low <= w && w <= high
 }
 
 // Whether a word's signed number is within n of 0.
@@ -89,20 +71,14 @@ pub fn near(n: u32, w: u32) -> bool
     requires { n ≤ 2147483647 }
     ensures { result ≡ Words.within n (Words.signed w) }
 {
-    if w <= n {
-        return true;
-    }
-    4294967295 - n < w
+    w <= n || u32::MAX - n < w
 }
 
 // Whether a number is one of 0 to n - 1.
 pub fn inside(n: u32, z: i64) -> bool
     ensures { result ≡ Words.inside n z }
 {
-    if z < 0 {
-        return false;
-    }
-    z < (n as i64)
+    0 <= z && z < i64::from(n)
 }
 
 // ---- what registers do
@@ -110,20 +86,20 @@ pub fn inside(n: u32, z: i64) -> bool
 pub fn plus(a: u32, b: u32) -> u32
     ensures { result ≡ Words.plus a b }
 {
-    std::num::wrapping_add_u32(a, b)
+    a.wrapping_add(b)
 }
 
 pub fn minus(a: u32, b: u32) -> u32
     ensures { result ≡ Words.minus a b }
 {
-    std::num::wrapping_sub_u32(a, b)
+    a.wrapping_sub(b)
 }
 
 // The wrapped product.
 pub fn times(a: u32, b: u32) -> u32
     ensures { result ≡ Words.times a b }
 {
-    (((a as u64) * (b as u64)) % 0x1_0000_0000) as u32
+    a.wrapping_mul(b)
 }
 
 // The quotient of the two signed numbers, toward zero. In 64 bits the least number divided by -1 needs no case of its own.

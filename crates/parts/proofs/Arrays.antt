@@ -9,12 +9,16 @@ use Rattle.numbers.specs.Words.{words}
 use Rattle.kernel.specs.File.{Rec, record_of, nothing, Kernel, first_of, step_of, array}
 use Rattle.kernel.specs.Reading.{records}
 use Rattle.kernel.specs.Guarantees.{ArrayFits, All}
-use Rattle.kernel.proofs.Readable.{all_at}
-use Rattle.kernel.proofs.Readable.{length_records}
+use Rattle.kernel.proofs.Readable.{all_at, fitting, length_records}
 use Rattle.parts.specs.declared.Measure.{Measure}
 use Rattle.parts.specs.declared.Measure.TheVariants.{Cells, Items}
+use Rattle.parts.specs.declared.ArrayTable.{ArrayTable}
 use Rattle.parts.specs.Arrays.{arrays_of, array_at, HasArray, Arrays, measure}
 use Rattle.parts.proofs.Records.{records_at, records_past}
+
+-- what a table of arrays stands for
+pub arrays : (t : ArrayTable) → Arrays t.file.now t.count
+arrays t = record { few = t.few; there = t.there; fit = fitting (arrays_of t.file.now t.count) t.fit }
 
 -- ---- array i of the n of a file
 

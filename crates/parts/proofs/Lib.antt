@@ -4,3 +4,6 @@ pub mod Arrays
 pub mod Turns
 pub mod One
 pub mod Room
+pub mod Operators
+pub mod Saying
+pub mod Siding

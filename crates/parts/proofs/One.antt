@@ -1,6 +1,5 @@
 -- A contract that names a record's view leaves one record.
 use mathlib.Core.Path.{◌≡◌}
-use lib.ListN.{get_or}
 use Rattle.parts.specs.declared.Rec.{Rec}
 use Rattle.parts.specs.Records.{rec}
 
@@ -10,8 +9,5 @@ one_record r r' e = λ i. record {
   p = (e i).p;
   q = (e i).q;
   k = (e i).k;
-  x0 = get_or (e i).x 0 0;
-  x1 = get_or (e i).x 1 0;
-  x2 = get_or (e i).x 2 0;
-  x3 = get_or (e i).x 3 0;
+  x = (e i).x;
 }

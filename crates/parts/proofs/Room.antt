@@ -23,10 +23,7 @@ pub form_room : (f : Form) → FormSmall (form f) → Within (2 ^ 50) (2 ^ 33) f
 unfolding coefficient
 form_room f s = record {
   k_small = small (2 ^ 50) s.k_small tt;
-  x0_small = small (2 ^ 33) (s.x_small 0) tt;
-  x1_small = small (2 ^ 33) (s.x_small 1) tt;
-  x2_small = small (2 ^ 33) (s.x_small 2) tt;
-  x3_small = small (2 ^ 33) (s.x_small 3) tt;
+  x_small = λ level. small (2 ^ 33) (s.x_small level) tt;
 }
 
 -- what is left where s is taken away again

@@ -1,21 +1,25 @@
-// What stands where in a kernel file that reads: its counts, its parts, a record, and what a record says: an index form, a loop, an array.
+// What stands where in a kernel file that reads: its counts, its sections, a record, and what a record says: an index form, a loop, a statement, an array.
 #![tactic(auto)]
 
-ghost use Rattle.std.specs.Prelude.{◌≡◌, ◌+◌, ◌*◌, ◌/◌, ◌<◌, ◌≤◌, length, get_or, drop, ◌-ℤ◌};
+ghost use Rattle.std.specs.Prelude.{◌≡◌, ◌+◌, ◌*◌, ◌/◌, ◌<◌, ◌≤◌, length, get_or, drop, map, ◌-ℤ◌};
 ghost use Rattle.numbers.specs.Words.{signed};
 ghost use Rattle.forms.specs.Code.{form, loop};
 ghost use Rattle.kernel.specs.File as File;
 ghost use Rattle.kernel.specs.Answers as Answers;
+ghost use Rattle.kernel.specs.Named.{sided};
 ghost use Rattle.parts.specs.Records.{rec, record_at};
-ghost use Rattle.parts.specs.Parts.{Few, Lies, arrays_part, array_part, stream_part, derivation_part, records_in};
-ghost use Rattle.parts.specs.Arrays.{arrays_of, array_at, HasArray, measure};
+ghost use Rattle.parts.specs.Parts.{Few, Fills, Lies, ReadAs, arrays_part, array_part, stream_part, derivation_part, records_in};
+ghost use Rattle.parts.specs.Arrays.{arrays_of, array_at, side_there, Fitting, measure};
 
 use forms::{Form, Loop};
+use kernel::codes::Side;
 
-// ---- the parts of a file
+pub mod statements;
+
+// ---- the sections of a file
 
 // The counts of a kernel file, by document 01's letters: registers, buffers, arrays, the two programs' statements, derivation.
-#[derive(Clone, Copy)]
+#[derive(Clone, Copy, Debug, PartialEq, Eq)]
 pub struct Counts {
     pub r: usize,
     pub b: usize,
@@ -26,60 +30,147 @@ pub struct Counts {
 }
 
 // Where the first of a section's records begins, in numbers, and how many there are.
-#[derive(Clone, Copy)]
+#[derive(Clone, Copy, Debug, PartialEq, Eq)]
 pub struct Part {
     pub at: usize,
     pub count: usize,
 }
 
-pub fn arrays_part(c: Counts) -> Part
-    ensures { result ≡ arrays_part c }
-{
-    Part { at: 3, count: c.a }
+// The records of a section in their file.
+#[derive(Clone, Copy)]
+pub struct RecordTable<'a> {
+    pub file: &'a [u8],
+    pub part: Part,
+    pub ghost lies: { Lies 1024 file.now part },
 }
 
-pub fn array_part(c: Counts) -> Part
-    requires { Few c }
-    ensures { result ≡ array_part c }
-{
-    Part {
-        at: 4 + 8 * c.a,
-        count: c.s,
+impl<'a> RecordTable<'a> {
+    // Record i; all zeros where there is none.
+    pub fn record(self, i: usize) -> Rec
+        ensures { rec result ≡ get_or (records_in self.entry.file.now self.entry.part) i File.nothing }
+    {
+        if i < self.part.count {
+            return record_at(self.file, self.part.at + 8 * i);
+        }
+        Rec {
+            code: 0,
+            p: 0,
+            q: 0,
+            k: 0,
+            x: [0; 4],
+        }
+    }
+
+    // The code of record i.
+    pub fn code(self, i: usize) -> u32
+        requires { i < self.part.count }
+        ensures { result ≡ (get_or (records_in self.entry.file.now self.entry.part) i File.nothing).code }
+    {
+        numbers::whole_word(self.file, self.part.at + 8 * i)
     }
 }
 
-pub fn stream_part(c: Counts) -> Part
-    requires { Few c }
-    ensures { result ≡ stream_part c }
-{
-    Part {
-        at: 5 + 8 * (c.a + c.s),
-        count: c.t,
+// A file whose counts and lengths are right.
+#[derive(Clone, Copy)]
+pub struct Sections<'a> {
+    pub file: &'a [u8],
+    pub counts: Counts,
+    pub ghost fills: { Fills file.now counts },
+}
+
+impl<'a> Sections<'a> {
+    pub fn arrays(self) -> RecordTable<'a>
+        ensures { (result.file ≡ self.entry.file) × (result.part ≡ arrays_part self.entry.counts) }
+    {
+        let part = Part {
+            at: 3,
+            count: self.counts.a,
+        };
+        RecordTable {
+            file: self.file,
+            part,
+        }
+    }
+
+    pub fn array_program(self) -> RecordTable<'a>
+        ensures { (result.file ≡ self.entry.file) × (result.part ≡ array_part self.entry.counts) }
+    {
+        let part = Part {
+            at: 4 + 8 * self.counts.a,
+            count: self.counts.s,
+        };
+        RecordTable {
+            file: self.file,
+            part,
+        }
+    }
+
+    pub fn stream_program(self) -> RecordTable<'a>
+        ensures { (result.file ≡ self.entry.file) × (result.part ≡ stream_part self.entry.counts) }
+    {
+        let part = Part {
+            at: 5 + 8 * (self.counts.a + self.counts.s),
+            count: self.counts.t,
+        };
+        RecordTable {
+            file: self.file,
+            part,
+        }
+    }
+
+    pub fn derivation(self) -> RecordTable<'a>
+        ensures { (result.file ≡ self.entry.file) × (result.part ≡ derivation_part self.entry.counts) }
+    {
+        let part = Part {
+            at: 6 + 8 * (self.counts.a + self.counts.s + self.counts.t),
+            count: self.counts.d,
+        };
+        RecordTable {
+            file: self.file,
+            part,
+        }
     }
 }
 
-pub fn derivation_part(c: Counts) -> Part
-    requires { Few c }
-    ensures { result ≡ derivation_part c }
-{
-    Part {
-        at: 6 + 8 * (c.a + c.s + c.t),
-        count: c.d,
+// A kernel: a file that reads, with its counts.
+#[derive(Clone, Copy)]
+pub struct Kernel<'a> {
+    pub file: &'a [u8],
+    pub counts: Counts,
+    pub ghost reads: { ReadAs file.now counts },
+}
+
+impl<'a> Kernel<'a> {
+    pub fn sections(self) -> Sections<'a>
+        ensures { (result.file ≡ self.entry.file) × (result.counts ≡ self.entry.counts) }
+    {
+        Sections {
+            file: self.file,
+            counts: self.counts,
+        }
+    }
+
+    pub fn arrays(self) -> ArrayTable<'a>
+        ensures { (result.file ≡ self.entry.file) × (result.count ≡ self.entry.counts.a) }
+    {
+        let count = self.counts.a;
+        ArrayTable {
+            file: self.file,
+            count,
+        }
     }
 }
 
 // ---- records
 
-#[derive(Clone, Copy)]
+// A record as it stands in the file: eight numbers, which are tested before they are decoded.
+#[derive(Clone, Copy, Debug, PartialEq, Eq)]
 pub struct Rec {
     pub code: u32,
     pub p: u32,
     pub q: u32,
     pub k: u32,
-    pub x0: u32,
-    pub x1: u32,
-    pub x2: u32,
-    pub x3: u32,
+    pub x: [u32; 4],
 }
 
 // The record that begins at a place.
@@ -92,53 +183,12 @@ pub fn record_at(file: &[u8], place: usize) -> Rec
         p: numbers::whole_word(file, place + 1),
         q: numbers::whole_word(file, place + 2),
         k: numbers::whole_word(file, place + 3),
-        x0: numbers::whole_word(file, place + 4),
-        x1: numbers::whole_word(file, place + 5),
-        x2: numbers::whole_word(file, place + 6),
-        x3: numbers::whole_word(file, place + 7),
-    }
-}
-
-// Record i of a part; all zeros where there is none.
-pub fn record_in(file: &[u8], part: Part, i: usize) -> Rec
-    requires { Lies 1024 file.now part }
-    ensures { rec result ≡ get_or (records_in file.now part) i File.nothing }
-{
-    if i < part.count {
-        return record_at(file, part.at + 8 * i);
-    }
-    Rec {
-        code: 0,
-        p: 0,
-        q: 0,
-        k: 0,
-        x0: 0,
-        x1: 0,
-        x2: 0,
-        x3: 0,
-    }
-}
-
-// The code of record i of a part.
-pub fn code_in(file: &[u8], part: Part, i: usize) -> u32
-    requires { Lies 1024 file.now part × (i < part.count) }
-    ensures { result ≡ (get_or (records_in file.now part) i File.nothing).code }
-{
-    numbers::whole_word(file, part.at + 8 * i)
-}
-
-// ---- what a record says
-
-// Its index form.
-pub fn form_of(r: Rec) -> Form
-    ensures { form result ≡ File.form (rec r) }
-{
-    Form {
-        k: numbers::signed(r.k),
-        x0: numbers::signed(r.x0),
-        x1: numbers::signed(r.x1),
-        x2: numbers::signed(r.x2),
-        x3: numbers::signed(r.x3),
+        x: [
+            numbers::whole_word(file, place + 4),
+            numbers::whole_word(file, place + 5),
+            numbers::whole_word(file, place + 6),
+            numbers::whole_word(file, place + 7),
+        ],
     }
 }
 
@@ -161,87 +211,119 @@ fn passes(p: u32, q: u32, k: u32) -> usize
     n as usize
 }
 
-// The loop of a for.
-pub fn loop_of(r: Rec) -> Loop
-    ensures { loop result ≡ File.loop_of (rec r) }
+// The signed numbers of four words.
+fn signed_row(x: &[u32; 4]) -> [i64; 4]
+    ensures { result ≡ map signed x.now }
 {
-    Loop {
-        first: numbers::signed(r.p),
-        step: numbers::signed(r.k),
-        passes: passes(r.p, r.q, r.k),
+    x.map(|w| numbers::signed(w))
+}
+
+impl Rec {
+    // Its index form.
+    pub fn form(self) -> Form
+        ensures { form result ≡ File.form (rec self) }
+    {
+        Form {
+            k: numbers::signed(self.k),
+            x: signed_row(&self.x),
+        }
+    }
+
+    // The loop of a for.
+    pub fn for_loop(self) -> Loop
+        ensures { loop result ≡ File.loop_of (rec self) }
+    {
+        Loop {
+            first: numbers::signed(self.p),
+            step: numbers::signed(self.k),
+            passes: passes(self.p, self.q, self.k),
+        }
     }
 }
 
 // ---- arrays
 
-// A number of array j.
-fn number(file: &[u8], j: usize, field: usize) -> u32
-    requires { HasArray file.now j × (field < 8) }
-    ensures { result ≡ get_or (File.numbers (array_at file.now j)) field 0 }
-{
-    numbers::whole_word(file, 3 + 8 * j + field)
-}
-
-pub fn side_of(file: &[u8], j: usize) -> u32
-    requires { HasArray file.now j }
-    ensures { result ≡ File.side_of (array_at file.now j) }
-{
-    number(file, j, 0)
-}
-
-// The side of array j of the n, and 0 where there is none.
-pub fn side_in(file: &[u8], n: usize, j: usize) -> u32
-    requires { (n ≤ 8) × (3 + 8 * n ≤ length file.now / 4) }
-    ensures { result ≡ File.side_of (get_or (arrays_of file.now n) j File.nothing) }
-{
-    if j < n {
-        return side_of(file, j);
-    }
-    0
-}
-
-pub fn length_of(file: &[u8], j: usize) -> u32
-    requires { HasArray file.now j }
-    ensures { result ≡ File.length_of (array_at file.now j) }
-{
-    number(file, j, 1)
-}
-
-pub fn first_of(file: &[u8], j: usize) -> i64
-    requires { HasArray file.now j }
-    ensures { result ≡ File.first_of (array_at file.now j) }
-{
-    number(file, j, 2) as i64
-}
-
-pub fn count_of(file: &[u8], j: usize) -> u32
-    requires { HasArray file.now j }
-    ensures { result ≡ File.count_of (array_at file.now j) }
-{
-    number(file, j, 3)
-}
-
-pub fn step_of(file: &[u8], j: usize) -> i64
-    requires { HasArray file.now j }
-    ensures { result ≡ File.step_of (array_at file.now j) }
-{
-    numbers::signed(number(file, j, 4))
-}
-
 // What an array is measured by: its cells in an array memory, its items in a stream memory.
-#[derive(Clone, Copy)]
+#[derive(Clone, Copy, Debug, PartialEq, Eq)]
 pub enum Measure {
     Cells,
     Items,
 }
 
-pub fn size_of(file: &[u8], j: usize, m: Measure) -> u32
-    requires { HasArray file.now j }
-    ensures { result ≡ measure m (array_at file.now j) }
+// The side of array j of the first n of a file; none past the last.
+pub fn side_in(file: &[u8], n: usize, j: usize) -> Option<Side>
+    requires { (n ≤ 8) × (3 + 8 * n ≤ length file.now / 4) }
+    ensures { result ≡ side_there (sided (get_or (arrays_of file.now n) j File.nothing).code) }
 {
-    match m {
-        Measure::Cells => length_of(file, j),
-        Measure::Items => count_of(file, j),
+    if j < n {
+        return Side::try_from(numbers::whole_word(file, 3 + 8 * j)).ok();
+    }
+    None
+}
+
+// The arrays that a file declares.
+#[derive(Clone, Copy)]
+pub struct ArrayTable<'a> {
+    pub file: &'a [u8],
+    pub count: usize,
+    pub ghost few: { count ≤ 8 },
+    pub ghost there: { 3 + 8 * count ≤ length file.now / 4 },
+    pub ghost fit: { Fitting file.now count },
+}
+
+impl<'a> ArrayTable<'a> {
+    // A number of array j.
+    fn number(self, j: usize, field: usize) -> u32
+        requires { (j < self.count) × (field < 8) }
+        ensures { result ≡ get_or (File.numbers (array_at self.entry.file.now j)) field 0 }
+    {
+        numbers::whole_word(self.file, 3 + 8 * j + field)
+    }
+
+    // The side of array j; none past the last.
+    pub fn side(self, j: usize) -> Option<Side>
+        ensures { result ≡ side_there (sided (get_or (arrays_of self.entry.file.now self.entry.count) j File.nothing).code) }
+    {
+        side_in(self.file, self.count, j)
+    }
+
+    pub fn length(self, j: usize) -> u32
+        requires { j < self.count }
+        ensures { result ≡ File.length_of (array_at self.entry.file.now j) }
+    {
+        self.number(j, 1)
+    }
+
+    pub fn first(self, j: usize) -> i64
+        requires { j < self.count }
+        ensures { result ≡ File.first_of (array_at self.entry.file.now j) }
+    {
+        i64::from(self.number(j, 2))
+    }
+
+    pub fn count_of(self, j: usize) -> u32
+        requires { j < self.count }
+        ensures { result ≡ File.count_of (array_at self.entry.file.now j) }
+    {
+        self.number(j, 3)
+    }
+
+    pub fn step(self, j: usize) -> i64
+        requires { j < self.count }
+        ensures { result ≡ File.step_of (array_at self.entry.file.now j) }
+    {
+        numbers::signed(self.number(j, 4))
+    }
+
+    // Its cells or its items.
+    pub fn size(self, j: usize, m: Measure) -> u32
+        requires { j < self.count }
+        ensures { result ≡ measure m (array_at self.entry.file.now j) }
+    {
+        match m {
+            Measure::Cells => self.length(j),
+            Measure::Items => self.count_of(j),
+        }
     }
 }
 
@@ -260,7 +342,7 @@ fn from_record(program: &[u8], n: usize) -> &[u8]
     }
 }
 
-// The same of the array program, for choice 1, or of the stream program, for any other.
+// The same of the array program, for choice 1, or of the stream program, for any other: document 01's own numbers.
 pub fn shown<'a>(array: &'a [u8], stream: &'a [u8], choice: u32, n: usize) -> &'a [u8]
     ensures { result.now ≡ Answers.shown array.now stream.now choice n }
 {

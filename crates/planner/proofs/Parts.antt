@@ -1,9 +1,9 @@
 -- The parts of a word: a last part that is 0 need not be given, and each part is read back as the number that was given.
-use Prim.Native.Nat.{ℕ, zero, suc, ◌+◌, ◌*◌, ◌/◌, ◌%◌}
+use Prim.Native.Nat.{ℕ, zero, suc, ◌+◌, ◌*◌, ◌/◌, ◌%◌, ◌<◌}
 use mathlib.Core.Path.{◌≡◌, refl, ap, ◌∙◌}
 use mathlib.Core.List.{List, [], ◌∷◌, ◌++◌}
 use native.Mathlib.Omega.{arith}
-use lib.ListN.{get_or}
+use lib.ListN.{get_or, length}
 use Rattle.numbers.specs.Areas.{AllBelow, none_there, below_too}
 use Rattle.planner.specs.Words.{packed, Tells}
 
@@ -38,3 +38,14 @@ unfolding packed part
 read_back k word [] (e, a) = ap (part k) e ∙ none_left k
 read_back zero word (n ∷ ns) (e, below_too h a) = omega (arith, e, h)
 read_back (suc k) word (n ∷ ns) (e, below_too h a) = read_back k (word / 65536) ns (omega (arith, e, h), a)
+
+-- ---- four parts
+
+pub four : (ns : List ℕ) → length ns ≡ 4 → ((i : ℕ) → get_or ns i 0 < 65536) → Tells (get_or ns 0 0 + 65536 * (get_or ns 1 0 + 65536 * (get_or ns 2 0 + 65536 * get_or ns 3 0))) ns
+unfolding packed
+four [] l h = absurd (omega (arith, l))
+four (a ∷ []) l h = absurd (omega (arith, l))
+four (a ∷ b ∷ []) l h = absurd (omega (arith, l))
+four (a ∷ b ∷ c ∷ []) l h = absurd (omega (arith, l))
+four (a ∷ b ∷ c ∷ d ∷ []) l h = (omega arith, below_too (h 0) (below_too (h 1) (below_too (h 2) (below_too (h 3) none_there))))
+four (a ∷ b ∷ c ∷ d ∷ e ∷ ns) l h = absurd (omega (arith, l))

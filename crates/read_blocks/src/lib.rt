@@ -6,166 +6,137 @@ ghost use Rattle.forms.specs.Code.{form};
 ghost use Rattle.kernel.specs.File as File;
 ghost use Rattle.kernel.specs.Reading as Reading;
 ghost use Rattle.parts.specs.Records.{rec};
-ghost use Rattle.read_blocks.specs.View.{block, opens, nested, Sound};
+ghost use Rattle.parts.specs.Statements.{op};
+ghost use Rattle.read_blocks.specs.Blocks.{block};
+ghost use Rattle.read_blocks.specs.View.{opens, nested};
 
+use forms::{Form, Loop};
+use kernel::refusals::Misread;
+use open::{Open, OpenBlocks};
 use parts::Rec;
+use parts::statements::{Op, Statement};
 
-// The open blocks, outermost first, at most eight: 0 for an if's before its else, 1 for one after it, n + 2 for a for's of n passes. The loops
-// among them and their passes multiplied are kept beside. A number that is not 0 is the refusal of a statement.
-#[derive(Clone, Copy)]
-pub struct OpenBlocks {
-    pub number: u8,
-    pub depth: usize,
-    pub loops: usize,
-    pub product: usize,
-    pub blocks: [usize; 8],
-}
+pub mod open;
 
 // No block is open.
 pub fn none() -> OpenBlocks
-    ensures { (result.number ≡ 0) × (opens result ≡ []) × Sound result }
+    ensures { opens result ≡ [] }
 {
     OpenBlocks {
-        number: 0,
         depth: 0,
         loops: 0,
         product: 1,
-        blocks: [0; 8],
+        blocks: [Open::If; 8],
     }
 }
 
-fn refused(n: OpenBlocks, number: u8) -> OpenBlocks
-    ensures { result ≡ record { number = number; depth = n.depth; loops = n.loops; product = n.product; blocks = n.blocks } }
+// One more block.
+fn opened(n: OpenBlocks, b: Open) -> Result<OpenBlocks, Misread>
+    requires { (1 ≤ Reading.all_passes (block b ∷ [])) × (Reading.all_passes (block b ∷ []) ≤ 131072) }
+    ensures { nested result ≡ Reading.opened (block b ∷ opens n) }
 {
-    let blocks = n.blocks;
-    OpenBlocks {
-        number,
+    let depth = n.depth;
+    let loops = n.loops + b.loops();
+    let product = n.product * b.passes();
+    if 8 <= depth || 4 < loops || 65536 < product {
+        return Err(Misread::TooDeep);
+    }
+    let mut blocks = n.blocks;
+    blocks[depth] = b;
+    Ok(OpenBlocks {
+        depth: depth + 1,
+        loops,
+        product,
+        blocks,
+    })
+}
+
+// An if's block begins its else.
+fn at_else(n: OpenBlocks) -> Result<OpenBlocks, Misread>
+    ensures { nested result ≡ Reading.after_else (opens n) }
+{
+    if n.depth == 0 {
+        return Err(Misread::BlocksUnmatched);
+    }
+    let top = n.depth - 1;
+    let mut blocks = n.blocks;
+    let Open::If = blocks[top] else {
+        return Err(Misread::BlocksUnmatched);
+    };
+    blocks[top] = Open::Else;
+    Ok(OpenBlocks {
         depth: n.depth,
         loops: n.loops,
         product: n.product,
         blocks,
-    }
-}
-
-// One more block, with its loops (0 or 1) and its passes.
-fn opened(n: OpenBlocks, b: usize, loops: usize, passes: usize) -> OpenBlocks
-    requires { Sound n × (loops ≡ Reading.open_loops (block b ∷ [])) × (passes ≡ Reading.all_passes (block b ∷ [])) × (1 ≤ passes) × (passes ≤ 131072) }
-    ensures { (nested result ≡ Reading.opened (block b ∷ opens n)) × Sound result }
-{
-    let depth = n.depth;
-    if 8 <= depth {
-        return refused(n, kernel::TOO_DEEP);
-    }
-    let l = n.loops + loops;
-    if 4 < l {
-        return refused(n, kernel::TOO_DEEP);
-    }
-    let p = n.product * passes;
-    if 65536 < p {
-        return refused(n, kernel::TOO_DEEP);
-    }
-    let mut blocks = n.blocks;
-    blocks[depth] = b;
-    OpenBlocks {
-        number: 0,
-        depth: depth + 1,
-        loops: l,
-        product: p,
-        blocks,
-    }
-}
-
-// An if's block begins its else.
-fn at_else(n: OpenBlocks) -> OpenBlocks
-    requires { Sound n }
-    ensures { (nested result ≡ Reading.after_else (opens n)) × Sound result }
-{
-    let depth = n.depth;
-    if depth == 0 {
-        return refused(n, kernel::BLOCKS_UNMATCHED);
-    }
-    let top = depth - 1;
-    let mut blocks = n.blocks;
-    if blocks[top] != 0 {
-        return refused(n, kernel::BLOCKS_UNMATCHED);
-    }
-    blocks[top] = 1;
-    OpenBlocks {
-        number: 0,
-        depth,
-        loops: n.loops,
-        product: n.product,
-        blocks,
-    }
+    })
 }
 
 // The innermost block ends.
-fn at_end(n: OpenBlocks) -> OpenBlocks
-    requires { Sound n }
-    ensures { (nested result ≡ Reading.after_end (opens n)) × Sound result }
+fn at_end(n: OpenBlocks) -> Result<OpenBlocks, Misread>
+    ensures { nested result ≡ Reading.after_end (opens n) }
 {
-    let depth = n.depth;
-    if depth == 0 {
-        return refused(n, kernel::BLOCKS_UNMATCHED);
+    if n.depth == 0 {
+        return Err(Misread::BlocksUnmatched);
     }
-    let top = depth - 1;
-    let blocks = n.blocks;
-    let b = blocks[top];
-    if b == 0 {
-        return refused(n, kernel::BLOCKS_UNMATCHED);
-    }
-    if b == 1 {
-        return OpenBlocks {
-            number: 0,
-            depth: top,
+    let depth = n.depth - 1;
+    match n.blocks[depth] {
+        Open::For(passes) => Ok(OpenBlocks {
+            depth,
+            loops: n.loops - 1,
+            product: n.product / passes,
+            blocks: n.blocks,
+        }),
+        Open::If => Err(Misread::BlocksUnmatched),
+        Open::Else => Ok(OpenBlocks {
+            depth,
             loops: n.loops,
             product: n.product,
-            blocks,
-        };
-    }
-    OpenBlocks {
-        number: 0,
-        depth: top,
-        loops: n.loops - 1,
-        product: n.product / (b - 2),
-        blocks,
+            blocks: n.blocks,
+        }),
     }
 }
 
-// A record with an index form has terms only for the loops around it.
-fn named(n: OpenBlocks, r: Rec) -> OpenBlocks
-    requires { Sound n × (n.number ≡ 0) }
-    ensures { (nested result ≡ Reading.names (File.form (rec r)) (opens n)) × Sound result }
+// An index form has terms only for the loops around it.
+fn named(n: OpenBlocks, f: Form) -> Result<OpenBlocks, Misread>
+    ensures { nested result ≡ Reading.names (form f) (opens n) }
 {
-    let f = parts::form_of(r);
     if f.around(n.loops) {
-        return n;
+        Ok(n)
+    } else {
+        Err(Misread::TooDeep)
     }
-    refused(n, kernel::TOO_DEEP)
 }
 
-fn for_opened(n: OpenBlocks, r: Rec) -> OpenBlocks
-    requires { Sound n × (1 ≤ (File.loop_of (rec r)).passes) × ((File.loop_of (rec r)).passes ≤ 131072) }
-    ensures { (nested result ≡ Reading.opened (Reading.open_for (File.loop_of (rec r)).passes ∷ opens n)) × Sound result }
+// One more block, that of a for.
+fn for_opened(n: OpenBlocks, l: Loop) -> Result<OpenBlocks, Misread>
+    requires { (1 ≤ l.passes) × (l.passes ≤ 131072) }
+    ensures { nested result ≡ Reading.opened (Reading.open_for l.passes ∷ opens n) }
 {
-    let l = parts::loop_of(r);
-    opened(n, l.passes + 2, 1, l.passes)
+    opened(n, Open::For(l.passes))
+}
+
+// A statement that holds no block leaves them as they are, if its form may stand there.
+fn after_op(n: OpenBlocks, o: Op) -> Result<OpenBlocks, Misread>
+    ensures { nested result ≡ Reading.after_op (op o) (opens n) }
+{
+    match o {
+        Op::Set(_, f) | Op::Load(_, _, f) | Op::Store(_, _, f) => named(n, f),
+        Op::Copy(_, _) | Op::Work(_, _, _, _) | Op::Read(_, _) | Op::Write(_, _) => Ok(n),
+    }
 }
 
 // The blocks that are open after a statement; its code and fields are known to be right.
-pub fn after(n: OpenBlocks, r: Rec) -> OpenBlocks
-    requires { Sound n × (n.number ≡ 0) × (r.code ≡ 8 → (1 ≤ (File.loop_of (rec r)).passes) × ((File.loop_of (rec r)).passes ≤ 131072)) }
-    ensures { (nested result ≡ Reading.after (File.statement (rec r)) (opens n)) × Sound result }
+pub fn after(n: OpenBlocks, r: Rec) -> Result<OpenBlocks, Misread>
+    requires { r.code ≡ 8 → (1 ≤ (File.loop_of (rec r)).passes) × ((File.loop_of (rec r)).passes ≤ 131072) }
+    ensures { nested result ≡ Reading.after (File.statement (rec r)) (opens n) }
 {
-    let code = r.code;
-    match code {
-        kernel::codes::SETS => named(n, r),
-        kernel::codes::LOADS => named(n, r),
-        kernel::codes::STORES => named(n, r),
-        kernel::codes::FORS => for_opened(n, r),
-        kernel::codes::IFS => opened(n, 0, 0, 1),
-        kernel::codes::ELSES => at_else(n),
-        kernel::codes::ENDS => at_end(n),
-        _ => n,
+    match Statement::try_from(r) {
+        Ok(Statement::Does(o)) => after_op(n, o),
+        Ok(Statement::For(l)) => for_opened(n, l),
+        Ok(Statement::If(_)) => opened(n, Open::If),
+        Ok(Statement::Else) => at_else(n),
+        Ok(Statement::End) => at_end(n),
+        Err(_) => Ok(n),
     }
 }

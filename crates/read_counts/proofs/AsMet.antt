@@ -1,50 +1,43 @@
 -- Counts and lengths as met: from what each count and each section came to, to what all sections come to.
 use Prim.Native.Nat.{ℕ, ◌+◌, ◌-◌, ◌*◌, ◌<◌, ◌≤◌}
 use mathlib.Core.Path.{◌≡◌, refl, sym, ap, ◌∙◌}
-use mathlib.Core.Bool.{Bool, true, false, cond}
+use mathlib.Core.Bool.{Bool, true, false}
 use mathlib.Core.List.{List}
 use native.Mathlib.Omega.{arith}
 use lib.Dec.{eqb, leb, ltb}
 use lib.ListN.{length, drop, length-drop, drop_of_length-le}
 use lib.Seq.{drop-drop}
 use borrow.Author.Tests.{eq-eqb, ne_eqb, lt-leb, le-leb, ltb-true, ltb-false}
+use Rattle.std.specs.Prelude.{Ok, Err}
+use Rattle.std.specs.Prelude as Std
 use Rattle.numbers.specs.Result.{Result, ok, stop, ◌>>=◌, need}
 use Rattle.kernel.specs.File.{Rec, Kernel}
 use Rattle.kernel.specs.Reading.{Fault, fault, count, records, section, sections}
-use Rattle.read_counts.specs.declared.Found.{Found}
+use Rattle.kernel.specs.Named.{unread}
+use Rattle.kernel.specs.declared.refusals.Unread.{Unread}
+use Rattle.read_counts.specs.declared.Counted.{Counted}
 use Rattle.read_counts.specs.View.{counted, listed}
 
 -- ---- one step of a `do`, by another name of what it came to
 
-module _ {A B : Type 0} {m n : Result Fault A} (k : A → Result Fault B) (e : m ≡ n) where
-  goes : {a : A} → m ≡ ok a → (n >>= k) ≡ k a
-  unfolding ◌>>=◌
-  goes h = ap (λ r. r >>= k) (sym e ∙ h)
+module _ {A : Type 0} (ws : List ℕ) {x : Std.Result Counted Unread} where
+  module _ {n : Result Fault (ℕ × List ℕ)} (k : ℕ × List ℕ → Result Fault A) (e : counted ws x ≡ n) where
+    counted_go : {f : Counted} → x ≡ Ok f → (n >>= k) ≡ k (f.count, drop f.next ws)
+    unfolding ◌>>=◌ counted
+    counted_go w = ap (λ m. m >>= k) (sym e ∙ ap (counted ws) w)
 
-  stops : {f : Fault} → m ≡ stop f → (n >>= k) ≡ stop f
-  unfolding ◌>>=◌
-  stops h = ap (λ r. r >>= k) (sym e ∙ h)
+    counted_stop : {u : Unread} → x ≡ Err u → (n >>= k) ≡ stop (unread u)
+    unfolding ◌>>=◌ counted
+    counted_stop w = ap (λ m. m >>= k) (sym e ∙ ap (counted ws) w)
 
-module _ (ws : List ℕ) (f : Found) where
-  counted_go : f.number ≡ 0 → counted ws f ≡ ok (f.count, drop f.next ws)
-  unfolding counted
-  counted_go h = ap (λ t. cond t (ok (f.count, drop f.next ws)) (stop (fault f.number f.section 0))) (eq-eqb f.number 0 h)
+  module _ {n : Result Fault (List Rec × List ℕ)} (k : List Rec × List ℕ → Result Fault A) (e : listed ws x ≡ n) where
+    listed_go : {f : Counted} → x ≡ Ok f → (n >>= k) ≡ k (records f.count (drop (f.next - 8 * f.count) ws), drop f.next ws)
+    unfolding ◌>>=◌ listed
+    listed_go w = ap (λ m. m >>= k) (sym e ∙ ap (listed ws) w)
 
-  counted_stop : (f.number ≡ 0 → ⊥) → counted ws f ≡ stop (fault f.number f.section 0)
-  unfolding counted
-  counted_stop h = ap (λ t. cond t (ok (f.count, drop f.next ws)) (stop (fault f.number f.section 0))) (ne_eqb f.number 0 h)
-
-  listed_go : f.number ≡ 0 → listed ws f ≡ ok (records f.count (drop (f.next - 8 * f.count) ws), drop f.next ws)
-  unfolding listed
-  listed_go h =
-      ap (λ t. cond t (ok (records f.count (drop (f.next - 8 * f.count) ws), drop f.next ws)) (stop (fault f.number f.section 0)))
-      (eq-eqb f.number 0 h)
-
-  pub listed_stop : (f.number ≡ 0 → ⊥) → listed ws f ≡ stop (fault f.number f.section 0)
-  unfolding listed
-  listed_stop h =
-      ap (λ t. cond t (ok (records f.count (drop (f.next - 8 * f.count) ws), drop f.next ws)) (stop (fault f.number f.section 0)))
-      (ne_eqb f.number 0 h)
+    listed_stop : {u : Unread} → x ≡ Err u → (n >>= k) ≡ stop (unread u)
+    unfolding ◌>>=◌ listed
+    listed_stop w = ap (λ m. m >>= k) (sym e ∙ ap (listed ws) w)
 
 -- ---- a section, from its count
 
@@ -53,51 +46,52 @@ from_count (n, ws) = do
   _ ← need (fault 1 0 0) (leb (8 * n) (length ws))
   ok (records n ws, drop (8 * n) ws)
 
-module _ (ws : List ℕ) (p s low high : ℕ) (f : Found) (e : counted ws f ≡ count s low high (drop p ws)) where
-  pub section_stop : (f.number ≡ 0 → ⊥) → section s low high (drop p ws) ≡ stop (fault f.number f.section 0)
+module _ (ws : List ℕ) (p s low high : ℕ) {x : Std.Result Counted Unread} (e : counted ws x ≡ count s low high (drop p ws)) where
+  pub section_stop : {u : Unread} → x ≡ Err u → section s low high (drop p ws) ≡ stop (unread u)
   unfolding section from_count
-  section_stop h = stops from_count e (counted_stop ws f h)
+  section_stop w = counted_stop ws from_count e w
 
-  section_go : f.number ≡ 0 → section s low high (drop p ws) ≡ from_count (f.count, drop f.next ws)
-  unfolding section from_count
-  section_go h = goes from_count e (counted_go ws f h)
+  module _ (f : Counted) (w : x ≡ Ok f) where
+    section_go : section s low high (drop p ws) ≡ from_count (f.count, drop f.next ws)
+    unfolding section from_count
+    section_go = counted_go ws from_count e w
 
-  -- a count that is found stands inside
-  inside : f.number ≡ 0 → p < length ws
-  unfolding count
-  inside h = by (ltb p (length ws)) refl
-    where
-      by : (t : Bool) → ltb p (length ws) ≡ t → p < length ws
-      by true t = ltb-true p (length ws) t
-      by false t =
-          let clash : ◌≡◌ {A = Result Fault (ℕ × List ℕ)} (ok (f.count, drop f.next ws)) (stop (fault 1 0 0))
-          = sym (counted_go ws f h) ∙ e ∙ ap (count s low high) (drop_of_length-le ws {i = p} (ltb-false p (length ws) t)) in
-          let z : ◌≡◌ {A = ℕ} 0 1 = cc in
-          absurd (omega arith)
+    -- a count that is found stands inside
+    inside : p < length ws
+    unfolding count counted
+    inside = by (ltb p (length ws)) refl
+      where
+        by : (t : Bool) → ltb p (length ws) ≡ t → p < length ws
+        by true t = ltb-true p (length ws) t
+        by false t =
+            let clash : ◌≡◌ {A = Result Fault (ℕ × List ℕ)} (ok (f.count, drop f.next ws)) (stop (fault 1 0 0))
+            = sym (ap (counted ws) w) ∙ e ∙ ap (count s low high) (drop_of_length-le ws {i = p} (ltb-false p (length ws) t)) in
+            let z : ◌≡◌ {A = ℕ} 0 1 = cc in
+            absurd (omega arith)
 
-  pub section_short : f.number ≡ 0 → f.next ≡ p + 1 → length ws < f.next + 8 * f.count → section s low high (drop p ws) ≡ stop (fault 1 0 0)
-  unfolding from_count need ◌>>=◌
-  section_short h n l =
-      section_go h
-      ∙ ap (λ t. need (fault 1 0 0) t >>= λ _. ok (records f.count (drop f.next ws), drop (8 * f.count) (drop f.next ws)))
-      (lt-leb (8 * f.count) (length (drop f.next ws)) (simp length-drop (omega (arith, inside h))))
+    pub section_short : f.next ≡ p + 1 → length ws < f.next + 8 * f.count → section s low high (drop p ws) ≡ stop (fault 1 0 0)
+    unfolding from_count need ◌>>=◌
+    section_short n l =
+        section_go
+        ∙ ap (λ t. need (fault 1 0 0) t >>= λ _. ok (records f.count (drop f.next ws), drop (8 * f.count) (drop f.next ws)))
+        (lt-leb (8 * f.count) (length (drop f.next ws)) (simp length-drop (omega (arith, inside))))
 
-  pub section_there : f.number ≡ 0 → f.next + 8 * f.count ≤ length ws
-      → section s low high (drop p ws) ≡ ok (records f.count (drop f.next ws), drop (f.next + 8 * f.count) ws)
-  unfolding from_count need ◌>>=◌
-  section_there h l =
-      section_go h
-      ∙ ap (λ t. need (fault 1 0 0) t >>= λ _. ok (records f.count (drop f.next ws), drop (8 * f.count) (drop f.next ws)))
-      (le-leb (8 * f.count) (length (drop f.next ws)) (simp length-drop (omega arith)))
-      ∙ ap (λ ws'. ok (records f.count (drop f.next ws), ws')) (drop-drop (8 * f.count) f.next ws)
+    section_there : f.next + 8 * f.count ≤ length ws
+        → section s low high (drop p ws) ≡ ok (records f.count (drop f.next ws), drop (f.next + 8 * f.count) ws)
+    unfolding from_count need ◌>>=◌
+    section_there l =
+        section_go
+        ∙ ap (λ t. need (fault 1 0 0) t >>= λ _. ok (records f.count (drop f.next ws), drop (8 * f.count) (drop f.next ws)))
+        (le-leb (8 * f.count) (length (drop f.next ws)) (simp length-drop (omega arith)))
+        ∙ ap (λ ws'. ok (records f.count (drop f.next ws), ws')) (drop-drop (8 * f.count) f.next ws)
 
-  -- the answer's own form of it
-  pub listed_there : f.number ≡ 0 → f.next + 8 * f.count ≤ length ws
-      → listed ws (record { number = 0; section = 0; count = f.count; next = f.next + 8 * f.count }) ≡ section s low high (drop p ws)
-  unfolding listed
-  listed_there h l =
-      let e : f.next + 8 * f.count - 8 * f.count ≡ f.next = omega arith in
-      ap (λ n. ok (records f.count (drop n ws), drop (f.next + 8 * f.count) ws)) e ∙ sym (section_there h l)
+    -- the answer's own form of it
+    pub listed_there : f.next + 8 * f.count ≤ length ws
+        → listed ws (Ok (record { count = f.count; next = f.next + 8 * f.count })) ≡ section s low high (drop p ws)
+    unfolding listed
+    listed_there l =
+        let e : f.next + 8 * f.count - 8 * f.count ≡ f.next = omega arith in
+        ap (λ n. ok (records f.count (drop n ws), drop (f.next + 8 * f.count) ws)) e ∙ sym (section_there l)
 
 -- ---- all sections, section by section
 
@@ -136,76 +130,82 @@ unfolding sections from_end from_d from_t from_s from_a from_b
 as_met ws = refl
 
 -- the records that a section came to
-abbrev listing : List ℕ → Found → List Rec
+abbrev pub listing : List ℕ → Counted → List Rec
 listing ws f = records f.count (drop (f.next - 8 * f.count) ws)
 
 -- what each step found, the steps before it having found something
-module _ (ws : List ℕ) (r b a s t d : Found) where
-  pub stop_r : counted ws r ≡ count 1 1 32 ws → (r.number ≡ 0 → ⊥) → sections ws ≡ stop (fault r.number r.section 0)
-  stop_r e h = as_met ws ∙ stops (λ p. from_b p.0 p.1) e (counted_stop ws r h)
+module _ (ws : List ℕ) {x : Std.Result Counted Unread} where
+  module _ (e : counted ws x ≡ count 1 1 32 ws) where
+    pub stop_r : {u : Unread} → x ≡ Err u → sections ws ≡ stop (unread u)
+    stop_r w = as_met ws ∙ counted_stop ws (λ p. from_b p.0 p.1) e w
 
-  pub go_r : counted ws r ≡ count 1 1 32 ws → r.number ≡ 0 → sections ws ≡ from_b r.count (drop r.next ws)
-  go_r e h = as_met ws ∙ goes (λ p. from_b p.0 p.1) e (counted_go ws r h)
+    pub go_r : {r : Counted} → x ≡ Ok r → sections ws ≡ from_b r.count (drop r.next ws)
+    go_r w = as_met ws ∙ counted_go ws (λ p. from_b p.0 p.1) e w
 
-  pub stop_b : sections ws ≡ from_b r.count (drop r.next ws) → counted ws b ≡ count 2 0 16 (drop r.next ws) → (b.number ≡ 0 → ⊥) → sections ws ≡ stop (fault b.number b.section 0)
-  unfolding from_b
-  stop_b so e h = so ∙ stops (λ p. from_a r.count p.0 p.1) e (counted_stop ws b h)
+  module _ (r : ℕ) (rest : List ℕ) (so : sections ws ≡ from_b r rest) (e : counted ws x ≡ count 2 0 16 rest) where
+    pub stop_b : {u : Unread} → x ≡ Err u → sections ws ≡ stop (unread u)
+    unfolding from_b
+    stop_b w = so ∙ counted_stop ws (λ p. from_a r p.0 p.1) e w
 
-  pub go_b : sections ws ≡ from_b r.count (drop r.next ws) → counted ws b ≡ count 2 0 16 (drop r.next ws) → b.number ≡ 0 → sections ws ≡ from_a r.count b.count (drop b.next ws)
-  unfolding from_b
-  go_b so e h = so ∙ goes (λ p. from_a r.count p.0 p.1) e (counted_go ws b h)
+    pub go_b : {b : Counted} → x ≡ Ok b → sections ws ≡ from_a r b.count (drop b.next ws)
+    unfolding from_b
+    go_b w = so ∙ counted_go ws (λ p. from_a r p.0 p.1) e w
 
-  pub stop_a : sections ws ≡ from_a r.count b.count (drop b.next ws) → listed ws a ≡ section 3 1 8 (drop b.next ws) → (a.number ≡ 0 → ⊥) → sections ws ≡ stop (fault a.number a.section 0)
-  unfolding from_a
-  stop_a so e h = so ∙ stops (λ p. from_s r.count b.count p.0 p.1) e (listed_stop ws a h)
+  module _ (r b : ℕ) (rest : List ℕ) (so : sections ws ≡ from_a r b rest) (e : listed ws x ≡ section 3 1 8 rest) where
+    pub stop_a : {u : Unread} → x ≡ Err u → sections ws ≡ stop (unread u)
+    unfolding from_a
+    stop_a w = so ∙ listed_stop ws (λ p. from_s r b p.0 p.1) e w
 
-  pub go_a : sections ws ≡ from_a r.count b.count (drop b.next ws) → listed ws a ≡ section 3 1 8 (drop b.next ws) → a.number ≡ 0 → sections ws ≡ from_s r.count b.count (listing ws a) (drop a.next ws)
-  unfolding from_a
-  go_a so e h = so ∙ goes (λ p. from_s r.count b.count p.0 p.1) e (listed_go ws a h)
+    pub go_a : {a : Counted} → x ≡ Ok a → sections ws ≡ from_s r b (listing ws a) (drop a.next ws)
+    unfolding from_a
+    go_a w = so ∙ listed_go ws (λ p. from_s r b p.0 p.1) e w
 
-  pub stop_s : sections ws ≡ from_s r.count b.count (listing ws a) (drop a.next ws) → listed ws s ≡ section 4 0 256 (drop a.next ws) → (s.number ≡ 0 → ⊥) → sections ws ≡ stop (fault s.number s.section 0)
-  unfolding from_s
-  stop_s so e h = so ∙ stops (λ p. from_t r.count b.count (listing ws a) p.0 p.1) e (listed_stop ws s h)
+  module _ (r b : ℕ) (a : List Rec) (rest : List ℕ) (so : sections ws ≡ from_s r b a rest) (e : listed ws x ≡ section 4 0 256 rest) where
+    pub stop_s : {u : Unread} → x ≡ Err u → sections ws ≡ stop (unread u)
+    unfolding from_s
+    stop_s w = so ∙ listed_stop ws (λ p. from_t r b a p.0 p.1) e w
 
-  pub go_s : sections ws ≡ from_s r.count b.count (listing ws a) (drop a.next ws) → listed ws s ≡ section 4 0 256 (drop a.next ws) → s.number ≡ 0 → sections ws ≡ from_t r.count b.count (listing ws a) (listing ws s) (drop s.next ws)
-  unfolding from_s
-  go_s so e h = so ∙ goes (λ p. from_t r.count b.count (listing ws a) p.0 p.1) e (listed_go ws s h)
+    pub go_s : {s : Counted} → x ≡ Ok s → sections ws ≡ from_t r b a (listing ws s) (drop s.next ws)
+    unfolding from_s
+    go_s w = so ∙ listed_go ws (λ p. from_t r b a p.0 p.1) e w
 
-  pub stop_t : sections ws ≡ from_t r.count b.count (listing ws a) (listing ws s) (drop s.next ws) → listed ws t ≡ section 5 0 256 (drop s.next ws) → (t.number ≡ 0 → ⊥) → sections ws ≡ stop (fault t.number t.section 0)
-  unfolding from_t
-  stop_t so e h = so ∙ stops (λ p. from_d r.count b.count (listing ws a) (listing ws s) p.0 p.1) e (listed_stop ws t h)
+  module _ (r b : ℕ) (a s : List Rec) (rest : List ℕ) (so : sections ws ≡ from_t r b a s rest) (e : listed ws x ≡ section 5 0 256 rest) where
+    pub stop_t : {u : Unread} → x ≡ Err u → sections ws ≡ stop (unread u)
+    unfolding from_t
+    stop_t w = so ∙ listed_stop ws (λ p. from_d r b a s p.0 p.1) e w
 
-  pub go_t : sections ws ≡ from_t r.count b.count (listing ws a) (listing ws s) (drop s.next ws) → listed ws t ≡ section 5 0 256 (drop s.next ws) → t.number ≡ 0 → sections ws ≡ from_d r.count b.count (listing ws a) (listing ws s) (listing ws t) (drop t.next ws)
-  unfolding from_t
-  go_t so e h = so ∙ goes (λ p. from_d r.count b.count (listing ws a) (listing ws s) p.0 p.1) e (listed_go ws t h)
+    pub go_t : {t : Counted} → x ≡ Ok t → sections ws ≡ from_d r b a s (listing ws t) (drop t.next ws)
+    unfolding from_t
+    go_t w = so ∙ listed_go ws (λ p. from_d r b a s p.0 p.1) e w
 
-  pub stop_d : sections ws ≡ from_d r.count b.count (listing ws a) (listing ws s) (listing ws t) (drop t.next ws) → listed ws d ≡ section 6 0 1024 (drop t.next ws) → (d.number ≡ 0 → ⊥) → sections ws ≡ stop (fault d.number d.section 0)
-  unfolding from_d
-  stop_d so e h = so ∙ stops (λ p. from_end r.count b.count (listing ws a) (listing ws s) (listing ws t) p.0 p.1) e (listed_stop ws d h)
+  module _ (r b : ℕ) (a s t : List Rec) (rest : List ℕ) (so : sections ws ≡ from_d r b a s t rest) (e : listed ws x ≡ section 6 0 1024 rest) where
+    pub stop_d : {u : Unread} → x ≡ Err u → sections ws ≡ stop (unread u)
+    unfolding from_d
+    stop_d w = so ∙ listed_stop ws (λ p. from_end r b a s t p.0 p.1) e w
 
-  pub go_d : sections ws ≡ from_d r.count b.count (listing ws a) (listing ws s) (listing ws t) (drop t.next ws) → listed ws d ≡ section 6 0 1024 (drop t.next ws) → d.number ≡ 0 → sections ws ≡ from_end r.count b.count (listing ws a) (listing ws s) (listing ws t) (listing ws d) (drop d.next ws)
-  unfolding from_d
-  go_d so e h = so ∙ goes (λ p. from_end r.count b.count (listing ws a) (listing ws s) (listing ws t) p.0 p.1) e (listed_go ws d h)
+    pub go_d : {d : Counted} → x ≡ Ok d → sections ws ≡ from_end r b a s t (listing ws d) (drop d.next ws)
+    unfolding from_d
+    go_d w = so ∙ listed_go ws (λ p. from_end r b a s t p.0 p.1) e w
 
-  -- nothing may follow
-  module _ (so : sections ws ≡ from_end r.count b.count (listing ws a) (listing ws s) (listing ws t) (listing ws d) (drop d.next ws)) where
-    abbrev found : Kernel
-    found = record {
-      registers = r.count;
-      buffers = b.count;
-      arrays = listing ws a;
-      array_program = listing ws s;
-      stream_program = listing ws t;
-      derivation = listing ws d;
-    }
+-- nothing may follow
+module _ (ws : List ℕ) (r b : ℕ) (a s t d : List Rec) (next : ℕ) (so : sections ws ≡ from_end r b a s t d (drop next ws)) where
+  abbrev found : Kernel
+  found = record {
+    registers = r;
+    buffers = b;
+    arrays = a;
+    array_program = s;
+    stream_program = t;
+    derivation = d;
+  }
 
-    pub stop_end : d.next < length ws → sections ws ≡ stop (fault 1 0 0)
-    unfolding from_end need ◌>>=◌
-    stop_end h = so ∙ ap (λ t. need (fault 1 0 0) t >>= λ _. ok found) (ne_eqb (length (drop d.next ws)) 0 (λ e. short (sym (length-drop d.next ws) ∙ e)))
-      where
-        short : length ws - d.next ≡ 0 → ⊥
-        short e = omega arith
+  pub stop_end : next < length ws → sections ws ≡ stop (fault 1 0 0)
+  unfolding from_end need ◌>>=◌
+  stop_end h = so ∙ ap (λ t. need (fault 1 0 0) t >>= λ _. ok found) (ne_eqb (length (drop next ws)) 0 (λ e. short (sym (length-drop next ws) ∙ e)))
+    where
+      short : length ws - next ≡ 0 → ⊥
+      short e = omega arith
 
-    pub go_end : length ws ≤ d.next → sections ws ≡ ok found
-    unfolding from_end need ◌>>=◌
-    go_end h = so ∙ ap (λ t. need (fault 1 0 0) t >>= λ _. ok found) (eq-eqb (length (drop d.next ws)) 0 (simp length-drop (omega arith)))
+  pub go_end : length ws ≤ next → sections ws ≡ ok found
+  unfolding from_end need ◌>>=◌
+  go_end h = so ∙ ap (λ t. need (fault 1 0 0) t >>= λ _. ok found) (eq-eqb (length (drop next ws)) 0 (simp length-drop (omega arith)))

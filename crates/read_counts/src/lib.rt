@@ -1,12 +1,21 @@
 // The counts of a kernel file: one reader over the lent bytes, and each section's count and length as met.
 #![tactic(auto)]
 
-ghost use Rattle.std.specs.Prelude.{◌≡◌, ◌+◌, ◌*◌, ◌/◌, ◌≤◌, ◌<◌, length, drop};
+ghost use Rattle.std.specs.Prelude.{◌≡◌, ◌+◌, ◌*◌, ◌/◌, ◌≤◌, length, drop, IfOk};
 ghost use Rattle.numbers.specs.Words.{words};
+ghost use Rattle.kernel.specs.Named as Named;
 ghost use Rattle.kernel.specs.Reading as Reading;
-ghost use Rattle.read_counts.specs.View.{step, counted, SectionAt, answer, Standing};
+ghost use Rattle.read_counts.specs.View.{number, counted, listed, answer};
 
-use parts::Counts;
+use kernel::refusals::{Misread, Section, Unread};
+use parts::{Counts, Sections};
+
+// A file that ends too early or too late, or between two numbers.
+pub const BAD_LENGTH: Unread = Unread {
+    why: Misread::BadLength,
+    section: None,
+    place: 0,
+};
 
 // ---- the reader
 
@@ -16,165 +25,89 @@ pub struct Reader<'a> {
     pub place: usize,
 }
 
-// What stands at a place: a number's 32 bits, or the file's end.
-#[derive(Clone, Copy)]
-pub enum Step {
-    Number(u32),
-    End,
-}
-
-fn step_at(file: &[u8], place: usize) -> Step
-    ensures { result ≡ step file.now place }
-{
-    if place < file.len() / 4 {
-        Step::Number(numbers::word(file, place))
-    } else {
-        Step::End
-    }
-}
-
-fn lent<'a>(file: &'a [u8], place: usize) -> Reader<'a>
-    ensures { (result.file ≡ file.entry) × (result.place ≡ place) }
-{
-    Reader { file, place }
-}
-
-fn next<'a>(r: Reader<'a>) -> Step
-    ensures { result ≡ step r.entry.file.now r.entry.place }
-{
-    step_at(r.file, r.place)
-}
-
-// The number at a place of the file.
-pub fn number_at(file: &[u8], place: usize) -> Step
-    ensures { result ≡ step file.now place }
-{
-    next(lent(file, place))
-}
-
-// ---- counts, as met
-
-// A count and the place after what it counts; or, where the number is not 0, a refusal with its section.
-#[derive(Clone, Copy)]
-pub struct Found {
-    pub number: u8,
-    pub section: u8,
+// A count and the place after what it counts.
+#[derive(Clone, Copy, Debug, PartialEq, Eq)]
+pub struct Counted {
     pub count: usize,
     pub next: usize,
 }
 
-// The count of a section at a place, from low to high.
-fn count_at(file: &[u8], section: u8, place: usize, low: u32, high: u32) -> Found
-    requires { place ≤ 65536 }
-    ensures { (counted (words file.now) result ≡ Reading.count section low high (drop place (words file.now))) × (result.count ≤ high) × (result.next ≡ place + 1) }
-{
-    let next = place + 1;
-    let Step::Number(n) = number_at(file, place) else {
-        return Found {
-            number: kernel::BAD_LENGTH,
-            section: 0,
-            count: 0,
-            next,
-        };
-    };
-    if n < low {
-        return Found {
-            number: kernel::COUNT_OUTSIDE,
-            section,
-            count: 0,
-            next,
-        };
+impl<'a> Reader<'a> {
+    // A reader of the lent bytes, at a place.
+    fn lent(file: &'a [u8], place: usize) -> Reader<'a>
+        ensures { (result.file ≡ file.entry) × (result.place ≡ place) }
+    {
+        Reader { file, place }
     }
-    if high < n {
-        return Found {
-            number: kernel::COUNT_OUTSIDE,
-            section,
-            count: 0,
-            next,
-        };
+
+    // The number at its place, none at the file's end.
+    fn next(self) -> Option<u32>
+        ensures { result ≡ number self.entry.file.now self.entry.place }
+    {
+        if self.place < self.file.len() / 4 {
+            Some(numbers::word(self.file, self.place))
+        } else {
+            None
+        }
     }
-    Found {
-        number: 0,
-        section: 0,
-        count: n as usize,
-        next,
+
+    // The count of a section, from low to high.
+    fn count(self, of: Section, low: u32, high: u32) -> Result<Counted, Unread>
+        requires { self.place ≤ 65536 }
+        ensures { (counted (words self.entry.file.now) result ≡ Reading.count (Named.section of) low high (drop self.entry.place (words self.entry.file.now))) × IfOk result (λ f. (f.count ≤ high) × (f.next ≡ self.entry.place + 1)) }
+    {
+        let next = self.place + 1;
+        let Some(n) = self.next() else {
+            return Err(BAD_LENGTH);
+        };
+        if n < low || high < n {
+            return Err(Unread {
+                why: Misread::CountOutside,
+                section: Some(of),
+                place: 0,
+            });
+        }
+        let count = n as usize;
+        Ok(Counted { count, next })
+    }
+
+    // The count of a section, with as many records after it.
+    fn section(self, of: Section, low: u32, high: u32) -> Result<Counted, Unread>
+        requires { (self.place ≤ 65536) × (high ≤ 1024) }
+        ensures { (listed (words self.entry.file.now) result ≡ Reading.section (Named.section of) low high (drop self.entry.place (words self.entry.file.now))) × IfOk result (λ f. (f.count ≤ high) × (f.next ≡ self.entry.place + 1 + 8 * f.count) × (f.next ≤ length self.entry.file.now / 4)) }
+    {
+        let f = self.count(of, low, high)?;
+        let next = f.next + 8 * f.count;
+        if self.file.len() / 4 < next {
+            return Err(BAD_LENGTH);
+        }
+        let count = f.count;
+        Ok(Counted { count, next })
     }
 }
 
-// The count of a section at a place, with as many records after it.
-fn section_at(file: &[u8], section: u8, place: usize, low: u32, high: u32) -> Found
-    requires { (place ≤ 65536) × (high ≤ 1024) }
-    ensures { SectionAt file.now section place low high result }
-{
-    let f = count_at(file, section, place, low, high);
-    if f.number != 0 {
-        return Found {
-            number: f.number,
-            section: f.section,
-            count: 0,
-            next: f.next,
-        };
-    }
-    let next = f.next + 8 * f.count;
-    if file.len() / 4 < next {
-        return Found {
-            number: kernel::BAD_LENGTH,
-            section: 0,
-            count: 0,
-            next: f.next,
-        };
-    }
-    Found {
-        number: 0,
-        section: 0,
-        count: f.count,
-        next,
-    }
-}
+// ---- counts, as met
 
-#[derive(Clone, Copy)]
-pub enum Read {
-    Kernel(Counts),
-    // number, section, record
-    Refused(u8, u8, u16),
-}
-
-pub fn sections(file: &[u8]) -> Read
-    ensures { (answer file.now result ≡ Reading.sections (words file.now)) × Standing file.now result }
+// The counts of a file, or the first refusal of a count or a length.
+pub fn sections(file: &[u8]) -> Result<Sections<'_>, Unread>
+    ensures { (answer file.now result ≡ Reading.sections (words file.now)) × IfOk result (λ s. s.file ≡ file.entry) }
 {
-    let r = count_at(file, kernel::REGISTERS_SECTION, 0, 1, 32);
-    if r.number != 0 {
-        return Read::Refused(r.number, r.section, 0);
-    }
-    let b = count_at(file, kernel::BUFFERS_SECTION, r.next, 0, 16);
-    if b.number != 0 {
-        return Read::Refused(b.number, b.section, 0);
-    }
-    let a = section_at(file, kernel::ARRAYS_SECTION, b.next, 1, 8);
-    if a.number != 0 {
-        return Read::Refused(a.number, a.section, 0);
-    }
-    let s = section_at(file, kernel::ARRAY_PROGRAM_SECTION, a.next, 0, 256);
-    if s.number != 0 {
-        return Read::Refused(s.number, s.section, 0);
-    }
-    let t = section_at(file, kernel::STREAM_PROGRAM_SECTION, s.next, 0, 256);
-    if t.number != 0 {
-        return Read::Refused(t.number, t.section, 0);
-    }
-    let d = section_at(file, kernel::DERIVATION_SECTION, t.next, 0, 1024);
-    if d.number != 0 {
-        return Read::Refused(d.number, d.section, 0);
-    }
+    let r = Reader::lent(file, 0).count(Section::Registers, 1, 32)?;
+    let b = Reader::lent(file, r.next).count(Section::Buffers, 0, 16)?;
+    let a = Reader::lent(file, b.next).section(Section::Arrays, 1, 8)?;
+    let s = Reader::lent(file, a.next).section(Section::ArrayProgram, 0, 256)?;
+    let t = Reader::lent(file, s.next).section(Section::StreamProgram, 0, 256)?;
+    let d = Reader::lent(file, t.next).section(Section::Derivation, 0, 1024)?;
     if d.next < file.len() / 4 {
-        return Read::Refused(kernel::BAD_LENGTH, 0, 0);
+        return Err(BAD_LENGTH);
     }
-    Read::Kernel(Counts {
+    let counts = Counts {
         r: r.count,
         b: b.count,
         a: a.count,
         s: s.count,
         t: t.count,
         d: d.count,
-    })
+    };
+    Ok(Sections { file, counts })
 }

@@ -1,3 +1,4 @@
 pub mod Programs
 pub mod Rows
 pub mod Parts
+pub mod One

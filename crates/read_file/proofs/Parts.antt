@@ -1,17 +1,18 @@
 -- The whole file, part by part: from what each part's test came to, to what reading comes to.
 use Prim.Native.Nat.{ℕ, ◌%◌}
 use mathlib.Core.Path.{◌≡◌, sym, ap, ◌∙◌}
-use mathlib.Core.Bool.{cond}
 use mathlib.Core.List.{List, []}
 use lib.ListN.{length}
 use borrow.Author.Tests.{eq-eqb, ne_eqb}
+use Rattle.std.specs.Prelude as Std
+use Rattle.std.specs.Prelude.{Ok, Err}
 use Rattle.numbers.specs.Result.{Result, ok, stop, need, ◌>>=◌}
 use Rattle.numbers.specs.Words.{words}
 use Rattle.kernel.specs.File.{Kernel}
 use Rattle.kernel.specs.Reading.{Fault, fault, sections, array_scope, stream_scope, arrays_fit, statements_fit, rules_fit, read_file}
-use Rattle.read_file.specs.declared.Fault as Found
+use Rattle.kernel.specs.Named.{unread}
+use Rattle.kernel.specs.declared.refusals.Unread.{Unread}
 use Rattle.read_file.specs.View.{checked}
-use Rattle.read_file.proofs.Programs.{checked_stop}
 
 pub from_rules : Kernel → Result Fault Kernel
 from_rules K = do
@@ -53,52 +54,48 @@ read_sections file K h e = read_even file h ∙ ap (λ m. m >>= from_arrays) e
 
 -- ---- one part
 
-checked_fine : (s : ℕ) (f : Found.Fault) → f.number ≡ 0 → checked s f ≡ ok tt
-unfolding checked
-checked_fine s f h = ap (λ t. cond t (ok tt) (stop (fault f.number s f.place))) (eq-eqb f.number 0 h)
+module _ {x : Std.Result (Unit {0}) Unread} (m : Result Fault (Unit {0})) (e : checked x ≡ m) (next : Result Fault Kernel) where
+  goes : {t : Unit {0}} → x ≡ Ok t → (m >>= λ _. next) ≡ next
+  unfolding checked ◌>>=◌
+  goes w = ap (λ r. r >>= λ _. next) (sym e ∙ ap checked w)
 
-module _ {m : Result Fault (Unit {0})} (s : ℕ) (f : Found.Fault) (e : checked s f ≡ m) (next : Result Fault Kernel) where
-  goes : f.number ≡ 0 → (m >>= λ _. next) ≡ next
-  unfolding ◌>>=◌
-  goes h = ap (λ r. r >>= λ _. next) (sym e ∙ checked_fine s f h)
+  stops : {u : Unread} → x ≡ Err u → (m >>= λ _. next) ≡ stop (unread u)
+  unfolding checked ◌>>=◌
+  stops w = ap (λ r. r >>= λ _. next) (sym e ∙ ap checked w)
 
-  stops : (f.number ≡ 0 → ⊥) → (m >>= λ _. next) ≡ stop (fault f.number s f.place)
-  unfolding ◌>>=◌
-  stops h = ap (λ r. r >>= λ _. next) (sym e ∙ checked_stop s f h)
-
-module _ {all : Result Fault Kernel} (K : Kernel) (f : Found.Fault) where
-  module _ (so : all ≡ from_arrays K) (e : checked 3 f ≡ arrays_fit 0 0 0 K.arrays) where
-    pub go_arrays : f.number ≡ 0 → all ≡ from_array_program K
+module _ {all : Result Fault Kernel} {x : Std.Result (Unit {0}) Unread} (K : Kernel) where
+  module _ (so : all ≡ from_arrays K) (e : checked x ≡ arrays_fit 0 0 0 K.arrays) where
+    pub go_arrays : {t : Unit {0}} → x ≡ Ok t → all ≡ from_array_program K
     unfolding from_arrays
-    go_arrays h = so ∙ goes 3 f e (from_array_program K) h
+    go_arrays w = so ∙ goes (arrays_fit 0 0 0 K.arrays) e (from_array_program K) w
 
-    pub stop_arrays : (f.number ≡ 0 → ⊥) → all ≡ stop (fault f.number 3 f.place)
+    pub stop_arrays : {u : Unread} → x ≡ Err u → all ≡ stop (unread u)
     unfolding from_arrays
-    stop_arrays h = so ∙ stops 3 f e (from_array_program K) h
+    stop_arrays w = so ∙ stops (arrays_fit 0 0 0 K.arrays) e (from_array_program K) w
 
-  module _ (so : all ≡ from_array_program K) (e : checked 4 f ≡ statements_fit (array_scope K) 4 0 [] K.array_program) where
-    pub go_array_program : f.number ≡ 0 → all ≡ from_stream_program K
+  module _ (so : all ≡ from_array_program K) (e : checked x ≡ statements_fit (array_scope K) 4 0 [] K.array_program) where
+    pub go_array_program : {t : Unit {0}} → x ≡ Ok t → all ≡ from_stream_program K
     unfolding from_array_program
-    go_array_program h = so ∙ goes 4 f e (from_stream_program K) h
+    go_array_program w = so ∙ goes (statements_fit (array_scope K) 4 0 [] K.array_program) e (from_stream_program K) w
 
-    pub stop_array_program : (f.number ≡ 0 → ⊥) → all ≡ stop (fault f.number 4 f.place)
+    pub stop_array_program : {u : Unread} → x ≡ Err u → all ≡ stop (unread u)
     unfolding from_array_program
-    stop_array_program h = so ∙ stops 4 f e (from_stream_program K) h
+    stop_array_program w = so ∙ stops (statements_fit (array_scope K) 4 0 [] K.array_program) e (from_stream_program K) w
 
-  module _ (so : all ≡ from_stream_program K) (e : checked 5 f ≡ statements_fit (stream_scope K) 5 0 [] K.stream_program) where
-    pub go_stream_program : f.number ≡ 0 → all ≡ from_rules K
+  module _ (so : all ≡ from_stream_program K) (e : checked x ≡ statements_fit (stream_scope K) 5 0 [] K.stream_program) where
+    pub go_stream_program : {t : Unit {0}} → x ≡ Ok t → all ≡ from_rules K
     unfolding from_stream_program
-    go_stream_program h = so ∙ goes 5 f e (from_rules K) h
+    go_stream_program w = so ∙ goes (statements_fit (stream_scope K) 5 0 [] K.stream_program) e (from_rules K) w
 
-    pub stop_stream_program : (f.number ≡ 0 → ⊥) → all ≡ stop (fault f.number 5 f.place)
+    pub stop_stream_program : {u : Unread} → x ≡ Err u → all ≡ stop (unread u)
     unfolding from_stream_program
-    stop_stream_program h = so ∙ stops 5 f e (from_rules K) h
+    stop_stream_program w = so ∙ stops (statements_fit (stream_scope K) 5 0 [] K.stream_program) e (from_rules K) w
 
-  module _ (so : all ≡ from_rules K) (e : checked 6 f ≡ rules_fit K 0 K.derivation) where
-    pub go_rules : f.number ≡ 0 → all ≡ ok K
+  module _ (so : all ≡ from_rules K) (e : checked x ≡ rules_fit K 0 K.derivation) where
+    pub go_rules : {t : Unit {0}} → x ≡ Ok t → all ≡ ok K
     unfolding from_rules
-    go_rules h = so ∙ goes 6 f e (ok K) h
+    go_rules w = so ∙ goes (rules_fit K 0 K.derivation) e (ok K) w
 
-    pub stop_rules : (f.number ≡ 0 → ⊥) → all ≡ stop (fault f.number 6 f.place)
+    pub stop_rules : {u : Unread} → x ≡ Err u → all ≡ stop (unread u)
     unfolding from_rules
-    stop_rules h = so ∙ stops 6 f e (ok K) h
+    stop_rules w = so ∙ stops (rules_fit K 0 K.derivation) e (ok K) w

@@ -1,18 +1,18 @@
--- What the tests of a section's records come to.
-use Rattle.std.specs.Prelude.{ℕ, cond, eqb, List}
-use Rattle.numbers.specs.Result.{Result, ok, stop}
-use Rattle.kernel.specs.Reading as Reading
-use Rattle.kernel.specs.Reading.{fault}
-use Rattle.kernel.specs.File.{Rec}
-use Rattle.parts.specs.Parts.{records_in, Lies}
-use Rattle.read_file.specs.declared.Fault.{Fault}
+-- What the tests of a section's records come to, and what reading comes to, as the definitions give it.
+use Rattle.std.specs.Prelude.{ℕ, List, Result, Ok, Err}
+use Rattle.numbers.specs.Result as R
+use Rattle.numbers.specs.Result.{ok, stop}
+use Rattle.kernel.specs.File as File
+use Rattle.kernel.specs.Reading.{Fault}
+use Rattle.kernel.specs.Named.{unread}
+use Rattle.kernel.specs.declared.refusals.Unread.{Unread}
+use Rattle.parts.specs.Parts.{kernel}
+use Rattle.parts.specs.declared.Kernel.{Kernel}
 
-unfoldable pub checked : (section : ℕ) → Fault → Result Reading.Fault (Unit {0})
-checked section f = cond (eqb f.number 0) (ok tt) (stop (fault f.number section f.place))
+unfoldable pub checked : Result (Unit {0}) Unread → R.Result Fault (Unit {0})
+checked (Ok t) = ok tt
+checked (Err u) = stop (unread u)
 
--- a section's records, by where they begin and how many they are
-abbrev pub records_from : (file : List ℕ) (at count : ℕ) → List Rec
-records_from file at count = records_in file (record { at = at; count = count })
-
-abbrev pub LiesAt : (most : ℕ) (file : List ℕ) (at count : ℕ) → Type 0
-LiesAt most file at count = Lies most file (record { at = at; count = count })
+unfoldable pub answer : List ℕ → Result Kernel Unread → R.Result Fault File.Kernel
+answer file (Ok k) = ok (kernel file k.counts)
+answer file (Err u) = stop (unread u)

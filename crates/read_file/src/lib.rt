@@ -1,201 +1,147 @@
-// Reading a kernel file: from the lent bytes to its counts, or the first refusal.
+// Reading a kernel file: from the lent bytes to its kernel, or the first refusal.
 #![tactic(auto)]
 
-ghost use Rattle.std.specs.Prelude.{◌≡◌, [], ◌+◌, ◌*◌, ◌%◌, ◌≤◌, length};
+ghost use Rattle.std.specs.Prelude.{◌≡◌, [], ◌+◌, ◌%◌, ◌≤◌, length, IfOk};
 ghost use Rattle.numbers.specs.Result.{ok};
 ghost use Rattle.numbers.specs.Words.{words};
 ghost use Rattle.kernel.specs.File as File;
+ghost use Rattle.kernel.specs.Named as Named;
 ghost use Rattle.kernel.specs.Reading as Reading;
 ghost use Rattle.parts.specs.Records.{rec};
-ghost use Rattle.parts.specs.Parts.{kernel, Fills};
-ghost use Rattle.read_counts.specs.View.{answer};
-ghost use Rattle.read_records.specs.View.{IsTable, scope, Scoped};
-ghost use Rattle.read_file.specs.View.{checked, records_from, LiesAt};
+ghost use Rattle.parts.specs.Parts.{kernel};
+ghost use Rattle.parts.specs.Tables.{rows};
+ghost use Rattle.read_records.specs.View.{scope};
+ghost use Rattle.read_file.specs.View.{checked, answer};
 
-use parts::{Counts, Rec};
-use read_counts::Read;
-use read_records::Scope;
+use kernel::codes::Side;
+use kernel::refusals::{Misread, Section, Unread};
+use parts::{ArrayTable, Counts, Kernel, Rec, RecordTable, Sections};
+use read_records::{KindTable, Scope};
 
-// The number and the place of a section's first refusal; number 0 where there is none.
-#[derive(Clone, Copy)]
-pub struct Fault {
-    pub number: u8,
-    pub place: u16,
+// A refusal of a section's record.
+fn refused(why: Misread, section: Section, n: usize) -> Unread
+    requires { n ≤ 1024 }
+    ensures { Named.unread result ≡ Reading.fault (Named.misread why) (Named.section section) n }
+{
+    Unread {
+        why,
+        section: Some(section),
+        place: n as u16,
+    }
 }
 
 // ---- arrays
 
 // The lengths of one side so far, and of an array if it is of that side.
-fn added(sum: usize, side: u32, a: Rec) -> usize
+fn added(sum: usize, side: Side, a: Rec) -> usize
     requires { sum ≤ 8192 }
-    ensures { result ≡ sum + File.only side File.length_of (rec a) }
+    ensures { result ≡ sum + File.only (Named.side side) File.length_of (rec a) }
 {
-    if a.code == side {
-        return sum + (a.p as usize);
+    if a.code == u32::from(side) {
+        sum + (a.p as usize)
+    } else {
+        sum
     }
-    sum
 }
 
-// The arrays, whose records begin at a place.
-fn arrays_fit(file: &[u8], at: usize, count: usize) -> Fault
-    requires { LiesAt 8 file.now at count }
-    ensures { checked 3 result ≡ Reading.arrays_fit 0 0 0 (records_from file.now at count) }
+// The arrays, and the lengths of each side together.
+fn arrays_fit(arrays: RecordTable<'_>) -> Result<(), Unread>
+    ensures { checked result ≡ Reading.arrays_fit 0 0 0 (rows arrays.entry) }
 {
     let mut inputs = 0;
     let mut outputs = 0;
-    let mut i = 0;
-    while i < count {
-        let a = parts::record_at(file, at + 8 * i);
-        if !read_records::array_fits(a) {
-            return Fault {
-                number: kernel::FIELD_OUTSIDE,
-                place: i as u16,
-            };
+    for i in 0..arrays.part.count {
+        let a = arrays.record(i);
+        inputs = added(inputs, Side::Input, a);
+        outputs = added(outputs, Side::Output, a);
+        if !read_records::array_fits(a) || 8192 < inputs || 8192 < outputs {
+            return Err(refused(Misread::FieldOutside, Section::Arrays, i));
         }
-        inputs = added(inputs, kernel::codes::INPUT, a);
-        if 8192 < inputs {
-            return Fault {
-                number: kernel::FIELD_OUTSIDE,
-                place: i as u16,
-            };
-        }
-        outputs = added(outputs, kernel::codes::OUTPUT, a);
-        if 8192 < outputs {
-            return Fault {
-                number: kernel::FIELD_OUTSIDE,
-                place: i as u16,
-            };
-        }
-        i += 1;
     }
-    Fault {
-        number: 0,
-        place: 0,
-    }
+    Ok(())
 }
 
 // ---- statements
 
-// The statements of a program, which begin at a place.
+// The statements of a program.
 fn statements_fit(
-    file: &[u8],
-    kinds: &[[u8; 8]; 11],
-    c: Scope,
-    section: u8,
-    at: usize,
-    count: usize,
-) -> Fault
-    requires { IsTable kinds.now × Scoped file.now c × LiesAt 256 file.now at count }
-    ensures { checked section result ≡ Reading.statements_fit (scope file.now c) section 0 [] (records_from file.now at count) }
+    program: RecordTable<'_>,
+    kinds: &KindTable,
+    held: Scope<'_>,
+    section: Section,
+) -> Result<(), Unread>
+    ensures { checked result ≡ Reading.statements_fit (scope held.entry) (Named.section section) 0 [] (rows program.entry) }
 {
-    let mut n = read_blocks::none();
-    let mut i = 0;
-    while i < count {
-        let place = at + 8 * i;
-        if !read_records::statement_fits(file, kinds, c, place) {
-            return Fault {
-                number: kernel::FIELD_OUTSIDE,
-                place: i as u16,
-            };
+    let mut open = read_blocks::none();
+    for i in 0..program.part.count {
+        let r = program.record(i);
+        if !held.statement_fits(kinds, r) {
+            return Err(refused(Misread::FieldOutside, section, i));
         }
-        let r = parts::record_at(file, place);
-        n = read_blocks::after(n, r);
-        if n.number != 0 {
-            return Fault {
-                number: n.number,
-                place: i as u16,
-            };
-        }
-        i += 1;
-    }
-    if n.depth != 0 {
-        return Fault {
-            number: kernel::BLOCKS_UNMATCHED,
-            place: count as u16,
+        open = match read_blocks::after(open, r) {
+            Ok(n) => n,
+            Err(why) => return Err(refused(why, section, i)),
         };
     }
-    Fault {
-        number: 0,
-        place: 0,
+    if open.depth != 0 {
+        return Err(refused(Misread::BlocksUnmatched, section, program.part.count));
     }
+    Ok(())
 }
 
 // ---- the derivation
 
-// Its records, which begin at a place, in a kernel of so many arrays and buffers.
-fn rules_fit(file: &[u8], arrays: usize, buffers: usize, at: usize, count: usize) -> Fault
-    requires { LiesAt 1024 file.now at count }
-    ensures { (K : File.Kernel) → length K.arrays ≡ arrays → K.buffers ≡ buffers → checked 6 result ≡ Reading.rules_fit K 0 (records_from file.now at count) }
+// Its records, in a kernel of these counts.
+fn rules_fit(rules: RecordTable<'_>, counts: Counts) -> Result<(), Unread>
+    ensures { (K : File.Kernel) → length K.arrays ≡ counts.a → K.buffers ≡ counts.b → checked result ≡ Reading.rules_fit K 0 (rows rules.entry) }
 {
-    let mut i = 0;
-    while i < count {
-        let d = parts::record_at(file, at + 8 * i);
-        if !read_records::rule_fits(arrays, buffers, d) {
-            return Fault {
-                number: kernel::FIELD_OUTSIDE,
-                place: i as u16,
-            };
+    for i in 0..rules.part.count {
+        if !read_records::rule_fits(counts, rules.record(i)) {
+            return Err(refused(Misread::FieldOutside, Section::Derivation, i));
         }
-        i += 1;
     }
-    Fault {
-        number: 0,
-        place: 0,
-    }
+    Ok(())
 }
 
 // ---- the whole
 
 // The records of a file whose counts and lengths are right.
-fn records_fit(file: &[u8], c: Counts) -> Read
-    requires { (length file.now % 4 ≡ 0) × (Reading.sections (words file.now) ≡ ok (kernel file.now c)) × Fills file.now c }
-    ensures { answer file.now result ≡ Reading.read_file file.now }
+fn records_fit<'a>(s: Sections<'a>) -> Result<Kernel<'a>, Unread>
+    requires { (length s.file.now % 4 ≡ 0) × (Reading.sections (words s.file.now) ≡ ok (kernel s.file.now s.counts)) }
+    ensures { (answer s.entry.file.now result ≡ Reading.read_file s.entry.file.now) × IfOk result (λ k. k.file ≡ s.entry.file) }
 {
-    let arrays = parts::arrays_part(c);
-    let a = arrays_fit(file, arrays.at, arrays.count);
-    if a.number != 0 {
-        return Read::Refused(a.number, kernel::ARRAYS_SECTION, a.place);
-    }
+    let c = s.counts;
+    arrays_fit(s.arrays())?;
+    let arrays = ArrayTable {
+        file: s.file,
+        count: c.a,
+    };
     let kinds = read_records::kinds();
     let one = Scope {
         streaming: false,
         registers: c.r as u32,
-        arrays: c.a,
+        arrays,
     };
-    let array = parts::array_part(c);
-    let first = kernel::ARRAY_PROGRAM_SECTION;
-    let s = statements_fit(file, &kinds, one, first, array.at, array.count);
-    if s.number != 0 {
-        return Read::Refused(s.number, first, s.place);
-    }
+    statements_fit(s.array_program(), &kinds, one, Section::ArrayProgram)?;
     let two = Scope {
         streaming: true,
         registers: (c.r + c.b) as u32,
-        arrays: c.a,
+        arrays,
     };
-    let stream = parts::stream_part(c);
-    let second = kernel::STREAM_PROGRAM_SECTION;
-    let t = statements_fit(file, &kinds, two, second, stream.at, stream.count);
-    if t.number != 0 {
-        return Read::Refused(t.number, second, t.place);
-    }
-    let rules = parts::derivation_part(c);
-    let d = rules_fit(file, c.a, c.b, rules.at, rules.count);
-    if d.number != 0 {
-        return Read::Refused(d.number, kernel::DERIVATION_SECTION, d.place);
-    }
-    Read::Kernel(c)
+    statements_fit(s.stream_program(), &kinds, two, Section::StreamProgram)?;
+    rules_fit(s.derivation(), c)?;
+    Ok(Kernel {
+        file: s.file,
+        counts: c,
+    })
 }
 
 // Every list of bytes has its answer.
-pub fn read(file: &[u8]) -> Read
-    ensures { answer file.now result ≡ Reading.read_file file.now }
+pub fn read(file: &[u8]) -> Result<Kernel<'_>, Unread>
+    ensures { (answer file.now result ≡ Reading.read_file file.now) × IfOk result (λ k. k.file ≡ file.entry) }
 {
     if file.len() % 4 != 0 {
-        return Read::Refused(kernel::BAD_LENGTH, 0, 0);
+        return Err(read_counts::BAD_LENGTH);
     }
-    match read_counts::sections(file) {
-        Read::Kernel(c) => records_fit(file, c),
-        Read::Refused(number, section, place) => Read::Refused(number, section, place),
-    }
+    records_fit(read_counts::sections(file)?)
 }

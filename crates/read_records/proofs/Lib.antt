@@ -1,3 +1,4 @@
+pub mod Tests
 pub mod Tables
 pub mod Statements
 pub mod Arrays

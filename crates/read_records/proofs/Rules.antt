@@ -1,33 +1,14 @@
--- Which row of the definition a code meets, and seven zeros as three and four.
+-- Which row of the definition a code meets.
 use mathlib.Core.Path.{◌≡◌, refl, sym, ap, ◌∙◌}
 use mathlib.Core.Bool.{Bool, true, false, ◌&&◌, ◌||◌}
-use mathlib.Core.List.{List, [], ◌∷◌}
+use mathlib.Core.List.{◌∷◌}
 use Prim.Native.Nat.{ℕ}
 use lib.Dec.{eqb, ltb}
 use lib.ListN.{length, drop}
 use borrow.Author.Tests.{ne_eqb}
-use Rattle.numbers.specs.Lists.{every}
 use Rattle.numbers.specs.Words.{between}
 use Rattle.kernel.specs.File.{Rec, Kernel, numbers}
 use Rattle.kernel.specs.Reading.{zeros, minus_one, form_fits, rule_fits}
-
--- ---- zeros
-
-pub zeros_lead : (xs : List ℕ) → zeros (0 ∷ xs) ≡ zeros xs
-unfolding zeros every
-zeros_lead xs = refl
-
-pub zeros_three : (a b c : ℕ) (xs : List ℕ) → zeros (a ∷ b ∷ c ∷ xs) ≡ (zeros (a ∷ b ∷ c ∷ []) && zeros xs)
-unfolding zeros every
-zeros_three a b c xs = by (eqb 0 a) (eqb 0 b) (eqb 0 c)
-  where
-    by : (s t u : Bool) → (s && (t && (u && every (eqb 0) xs))) ≡ ((s && (t && (u && true))) && every (eqb 0) xs)
-    by true true true = refl
-    by true true false = refl
-    by true false u = refl
-    by false t u = refl
-
--- ---- by code
 
 abbrev bare : Rec → Bool
 bare r = between 1 10 r.code && zeros (drop 1 (numbers r))

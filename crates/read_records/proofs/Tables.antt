@@ -1,51 +1,59 @@
 -- The code's table against the definition's.
-use Prim.Native.Nat.{ℕ, zero, suc, ◌-◌, ◌<◌, ◌≤◌}
+use Prim.Native.Nat.{ℕ, ◌-◌, ◌≤◌}
 use mathlib.Core.Path.{◌≡◌, refl, sym, ap, ◌∙◌}
-use mathlib.Core.List.{List, [], map}
+use mathlib.Core.List.{List, [], ◌∷◌, map}
 use native.Mathlib.Omega.{arith}
 use lib.ListN.{length, get_or, get_or-map}
-use Rattle.kernel.specs.Reading.{Kind, unused, table}
+use Rattle.kernel.specs.declared.codes.Code.{Code}
+use Rattle.kernel.specs.declared.codes.Code.TheVariants as C
+use Rattle.kernel.specs.Named.{code}
+use Rattle.kernel.specs.Reading as Reading
+use Rattle.kernel.specs.Reading.{table}
+use Rattle.read_records.specs.declared.Kind.{Kind}
+use Rattle.read_records.specs.declared.Kind.TheVariants.{Unused}
 use Rattle.read_records.specs.View.{kind_of, kind_at, IsTable}
 
--- ---- the table
-
-pub entry : (rows : List (List ℕ)) → IsTable rows → (code field : ℕ) → kind_of (get_or (get_or rows (code - 1) []) field 0) ≡ kind_at code field
+pub entry : (rows : List (List Kind)) → IsTable rows → (code field : ℕ) → kind_of (get_or (get_or rows (code - 1) []) field Unused) ≡ kind_at code field
 unfolding kind_of kind_at
 entry rows e code field =
-    sym (get_or-map kind_of (get_or rows (code - 1) []) field 0)
-    ∙ ap (λ (r : List Kind). get_or r field unused) (sym (get_or-map (map kind_of) rows (code - 1) []) ∙ ap (λ t. get_or t (code - 1) []) e)
+    sym (get_or-map kind_of (get_or rows (code - 1) []) field Unused)
+    ∙ ap (λ (r : List Reading.Kind). get_or r field Reading.unused) (sym (get_or-map (map kind_of) rows (code - 1) []) ∙ ap (λ t. get_or t (code - 1) []) e)
+
+-- a code has a row
+pub in_table : (c : Code) → (1 ≤ code c) × (code c ≤ 11)
+unfolding code
+in_table C.Set = (omega arith, omega arith)
+in_table C.Copy = (omega arith, omega arith)
+in_table C.Work = (omega arith, omega arith)
+in_table C.Load = (omega arith, omega arith)
+in_table C.Store = (omega arith, omega arith)
+in_table C.Read = (omega arith, omega arith)
+in_table C.Write = (omega arith, omega arith)
+in_table C.For = (omega arith, omega arith)
+in_table C.If = (omega arith, omega arith)
+in_table C.Else = (omega arith, omega arith)
+in_table C.End = (omega arith, omega arith)
 
 -- every row has 8 fields
-rows_8 : (i : ℕ) → i < 11 → length (get_or table i []) ≡ 8
-unfolding table
-rows_8 zero h = refl
-rows_8 (suc zero) h = refl
-rows_8 (suc (suc zero)) h = refl
-rows_8 (suc (suc (suc zero))) h = refl
-rows_8 (suc (suc (suc (suc zero)))) h = refl
-rows_8 (suc (suc (suc (suc (suc zero))))) h = refl
-rows_8 (suc (suc (suc (suc (suc (suc zero)))))) h = refl
-rows_8 (suc (suc (suc (suc (suc (suc (suc zero))))))) h = refl
-rows_8 (suc (suc (suc (suc (suc (suc (suc (suc zero)))))))) h = refl
-rows_8 (suc (suc (suc (suc (suc (suc (suc (suc (suc zero))))))))) h = refl
-rows_8 (suc (suc (suc (suc (suc (suc (suc (suc (suc (suc zero)))))))))) h = refl
-rows_8 (suc (suc (suc (suc (suc (suc (suc (suc (suc (suc (suc i))))))))))) h = absurd (omega arith)
+pub row_8 : (c : Code) → length (get_or table (code c - 1) []) ≡ 8
+unfolding code table
+row_8 C.Set = refl
+row_8 C.Copy = refl
+row_8 C.Work = refl
+row_8 C.Load = refl
+row_8 C.Store = refl
+row_8 C.Read = refl
+row_8 C.Write = refl
+row_8 C.For = refl
+row_8 C.If = refl
+row_8 C.Else = refl
+row_8 C.End = refl
 
-pub row_8 : (code : ℕ) → 1 ≤ code → code ≤ 11 → length (get_or table (code - 1) []) ≡ 8
-row_8 code h k = rows_8 (code - 1) (omega arith)
-
--- what no other number stands for is unused
-pub kind_rest : (n : ℕ) → (n ≡ 1 → ⊥) → (n ≡ 2 → ⊥) → (n ≡ 3 → ⊥) → (n ≡ 4 → ⊥) → (n ≡ 5 → ⊥) → (n ≡ 6 → ⊥) → (n ≡ 7 → ⊥) → (n ≡ 8 → ⊥) → (n ≡ 9 → ⊥)
-    → kind_of n ≡ unused
-unfolding kind_of
-kind_rest zero a b c d e f g h i = refl
-kind_rest (suc zero) a b c d e f g h i = absurd (a refl)
-kind_rest (suc (suc zero)) a b c d e f g h i = absurd (b refl)
-kind_rest (suc (suc (suc zero))) a b c d e f g h i = absurd (c refl)
-kind_rest (suc (suc (suc (suc zero)))) a b c d e f g h i = absurd (d refl)
-kind_rest (suc (suc (suc (suc (suc zero))))) a b c d e f g h i = absurd (e refl)
-kind_rest (suc (suc (suc (suc (suc (suc zero)))))) a b c d e f g h i = absurd (f refl)
-kind_rest (suc (suc (suc (suc (suc (suc (suc zero))))))) a b c d e f g h i = absurd (g refl)
-kind_rest (suc (suc (suc (suc (suc (suc (suc (suc zero)))))))) a b c d e f g h i = absurd (h refl)
-kind_rest (suc (suc (suc (suc (suc (suc (suc (suc (suc zero))))))))) a b c d e f g h i = absurd (i refl)
-kind_rest (suc (suc (suc (suc (suc (suc (suc (suc (suc (suc n)))))))))) a b c d e f g h i = refl
+-- four numbers are a row of four
+pub four : (x : List ℕ) → length x ≡ 4 → get_or x 0 0 ∷ get_or x 1 0 ∷ get_or x 2 0 ∷ get_or x 3 0 ∷ [] ≡ x
+four [] h = absurd (omega arith)
+four (a ∷ []) h = absurd (omega arith)
+four (a ∷ b ∷ []) h = absurd (omega arith)
+four (a ∷ b ∷ c ∷ []) h = absurd (omega arith)
+four (a ∷ b ∷ c ∷ d ∷ []) h = refl
+four (a ∷ b ∷ c ∷ d ∷ e ∷ x) h = absurd (omega arith)

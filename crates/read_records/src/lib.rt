@@ -1,189 +1,161 @@
 // Whether one record is a statement, by document 01's table of what its fields may hold; an array; or a record of the derivation.
 #![tactic(auto)]
 
-ghost use Rattle.std.specs.Prelude.{◌≡◌, ◌+◌, ◌*◌, ◌/◌, ◌≤◌, ◌<◌, ◌-◌, pos, ◌+ℤ◌, ◌*ℤ◌, length, drop, ◌&&◌, ◌||◌, [], ◌∷◌, eqb, ltb};
+ghost use Rattle.std.specs.Prelude.{◌≡◌, ◌<◌, ◌≤◌, ◌-◌, pos, ◌+ℤ◌, ◌*ℤ◌, length, get_or, drop, ◌&&◌, ◌||◌, [], ◌∷◌, eqb, ltb};
 ghost use Rattle.numbers.specs.Words as Words;
+ghost use Rattle.kernel.specs.Named as Named;
 ghost use Rattle.kernel.specs.Reading as Reading;
-ghost use Rattle.read_records.specs.View.{kind_of, kind_at, IsTable, scope, Scoped, row};
-ghost use Rattle.kernel.specs.File.{Kernel, numbers};
-ghost use Rattle.parts.specs.Records.{rec, record_at};
+ghost use Rattle.kernel.specs.File as File;
+ghost use Rattle.read_records.specs.View.{kind_of, kind_at, IsTable, scope, row};
+ghost use Rattle.parts.specs.Records.{rec};
 
-use parts::Rec;
+use Kind::{
+    AnInput, AnOperator, AnOutput, ArrayOnly, Bound, Either, Register, StreamOnly, Term, Unused,
+};
+use kernel::codes::{Code, MINUS_ONE, Row, Rule, Side};
+use parts::{ArrayTable, Counts, Rec};
 
 // What a field may hold, and, in a code's first place, which program has it.
-const UNUSED: u8 = 0;
-
-const EITHER: u8 = 1;
-
-const ARRAY_ONLY: u8 = 2;
-
-const STREAM_ONLY: u8 = 3;
-
-const REGISTER: u8 = 4;
-
-const AN_INPUT: u8 = 5;
-
-const AN_OUTPUT: u8 = 6;
-
-const TERM: u8 = 7;
-
-const BOUND: u8 = 8;
-
-const OPERATOR: u8 = 9;
+#[derive(Clone, Copy, Debug, PartialEq, Eq)]
+pub enum Kind {
+    Unused,
+    Either,
+    ArrayOnly,
+    StreamOnly,
+    Register,
+    AnInput,
+    AnOutput,
+    Term,
+    Bound,
+    AnOperator,
+}
 
 // A row for each code from 1: the program, then p, q, k, x0, x1, x2, x3.
-const KINDS: [[u8; 8]; 11] = [
-    [EITHER, REGISTER, UNUSED, TERM, TERM, TERM, TERM, TERM],
+const KINDS: [[Kind; 8]; 11] = [
+    [Either, Register, Unused, Term, Term, Term, Term, Term],
     [
-        EITHER, REGISTER, REGISTER, UNUSED, UNUSED, UNUSED, UNUSED, UNUSED,
+        Either, Register, Register, Unused, Unused, Unused, Unused, Unused,
     ],
     [
-        EITHER, REGISTER, REGISTER, REGISTER, OPERATOR, UNUSED, UNUSED, UNUSED,
+        Either, Register, Register, Register, AnOperator, Unused, Unused, Unused,
     ],
-    [ARRAY_ONLY, REGISTER, AN_INPUT, TERM, TERM, TERM, TERM, TERM],
+    [ArrayOnly, Register, AnInput, Term, Term, Term, Term, Term],
+    [ArrayOnly, Register, AnOutput, Term, Term, Term, Term, Term],
     [
-        ARRAY_ONLY, REGISTER, AN_OUTPUT, TERM, TERM, TERM, TERM, TERM,
-    ],
-    [
-        STREAM_ONLY,
-        REGISTER,
-        AN_INPUT,
-        UNUSED,
-        UNUSED,
-        UNUSED,
-        UNUSED,
-        UNUSED,
+        StreamOnly, Register, AnInput, Unused, Unused, Unused, Unused, Unused,
     ],
     [
-        STREAM_ONLY,
-        REGISTER,
-        AN_OUTPUT,
-        UNUSED,
-        UNUSED,
-        UNUSED,
-        UNUSED,
-        UNUSED,
+        StreamOnly, Register, AnOutput, Unused, Unused, Unused, Unused, Unused,
     ],
-    [EITHER, BOUND, BOUND, BOUND, UNUSED, UNUSED, UNUSED, UNUSED],
+    [Either, Bound, Bound, Bound, Unused, Unused, Unused, Unused],
     [
-        EITHER, REGISTER, UNUSED, UNUSED, UNUSED, UNUSED, UNUSED, UNUSED,
+        Either, Register, Unused, Unused, Unused, Unused, Unused, Unused,
     ],
     [
-        EITHER, UNUSED, UNUSED, UNUSED, UNUSED, UNUSED, UNUSED, UNUSED,
+        Either, Unused, Unused, Unused, Unused, Unused, Unused, Unused,
     ],
     [
-        EITHER, UNUSED, UNUSED, UNUSED, UNUSED, UNUSED, UNUSED, UNUSED,
+        Either, Unused, Unused, Unused, Unused, Unused, Unused, Unused,
     ],
 ];
 
-// Each use of the constant builds the table anew: it is made once for a reading, and lent.
-pub fn kinds() -> [[u8; 8]; 11]
-    ensures { IsTable result }
-{
-    KINDS
-}
-
-fn kind(kinds: &[[u8; 8]; 11], code: u32, field: usize) -> u8
-    requires { IsTable kinds.now × (1 ≤ code) × (code ≤ 11) × (field < 8) }
-    ensures { kind_of result ≡ kind_at code field }
-{
-    kinds[(code - 1) as usize][field]
-}
-
-// What a program's fields are held to: whether it is the stream program, its registers, and how many arrays the file has.
+// The table. Each use of the constant builds it anew: it is made once for a reading, and lent.
 #[derive(Clone, Copy)]
-pub struct Scope {
+pub struct KindTable {
+    pub rows: [[Kind; 8]; 11],
+    pub ghost table: { IsTable rows },
+}
+
+// The table as document 01 has it.
+pub fn kinds() -> KindTable
+    ensures { IsTable result.rows }
+{
+    KindTable { rows: KINDS }
+}
+
+impl KindTable {
+    // What a field of a code's row may hold.
+    fn kind(&self, code: Code, field: usize) -> Kind
+        requires { field < 8 }
+        ensures { kind_of result ≡ kind_at (Named.code code) field }
+    {
+        self.rows[u32::from(code) as usize - 1][field]
+    }
+}
+
+// What a program's fields are held to: whether it is the stream program, its registers, and the file's arrays.
+#[derive(Clone, Copy)]
+pub struct Scope<'a> {
     pub streaming: bool,
     pub registers: u32,
-    pub arrays: usize,
+    pub arrays: ArrayTable<'a>,
 }
 
-fn holds(file: &[u8], c: Scope, kind: u8, w: u32) -> bool
-    requires { Scoped file.now c }
-    ensures { result ≡ Reading.holds (scope file.now c) (kind_of kind) w }
-{
-    match kind {
-        EITHER => true,
-        ARRAY_ONLY => !c.streaming,
-        STREAM_ONLY => c.streaming,
-        REGISTER => w < c.registers,
-        AN_INPUT => parts::side_in(file, c.arrays, w as usize) == kernel::codes::INPUT,
-        AN_OUTPUT => parts::side_in(file, c.arrays, w as usize) == kernel::codes::OUTPUT,
-        TERM => numbers::near(1048576, w),
-        BOUND => numbers::near(65536, w),
-        OPERATOR => numbers::between(1, 4, w),
-        _ => w == 0,
+impl<'a> Scope<'a> {
+    // Whether a number names an array of the side.
+    fn on(self, side: Side, w: u32) -> bool
+        ensures { result ≡ File.on (Named.side side) (get_or (scope self.entry).arrays w File.nothing) }
+    {
+        self.arrays.side(w as usize) == Some(side)
     }
-}
 
-// Whether each of the eight numbers at a place is what the code's row of the table says.
-fn row_fits(file: &[u8], kinds: &[[u8; 8]; 11], c: Scope, place: usize, code: u32) -> bool
-    requires { IsTable kinds.now × Scoped file.now c × (place + 8 ≤ length file.now / 4) × (1 ≤ code) × (code ≤ 11) }
-    ensures { result ≡ row file.now c place code }
-{
-    let mut field = 0;
-    while field < 8 {
-        let kind = kind(kinds, code, field);
-        let w = numbers::whole_word(file, place + field);
-        if !holds(file, c, kind, w) {
-            return false;
+    // Whether a field of this kind may hold a number.
+    fn holds(self, kind: Kind, w: u32) -> bool
+        ensures { result ≡ Reading.holds (scope self.entry) (kind_of kind) w }
+    {
+        match kind {
+            Either => true,
+            ArrayOnly => !self.streaming,
+            StreamOnly => self.streaming,
+            Unused => w == 0,
+            Register => w < self.registers,
+            AnInput => self.on(Side::Input, w),
+            AnOutput => self.on(Side::Output, w),
+            Term => numbers::near(1048576, w),
+            Bound => numbers::near(65536, w),
+            AnOperator => numbers::between(1, 4, w),
         }
-        field += 1;
     }
-    true
+
+    // Whether each of a record's eight numbers is what the code's row of the table says.
+    fn row_fits(self, kinds: &KindTable, code: Code, r: Rec) -> bool
+        ensures { result ≡ row (scope self.entry) (Named.code code) (rec r) }
+    {
+        let [x0, x1, x2, x3] = r.x;
+        let numbers = [r.code, r.p, r.q, r.k, x0, x1, x2, x3];
+        for field in 0..8 {
+            if !self.holds(kinds.kind(code, field), numbers[field]) {
+                return false;
+            }
+        }
+        true
+    }
+
+    // Whether a record is a statement of the program.
+    pub fn statement_fits(self, kinds: &KindTable, r: Rec) -> bool
+        ensures { result ≡ Reading.statement_fits (scope self.entry) (rec r) }
+    {
+        let Ok(code) = Code::try_from(r.code) else {
+            return false;
+        };
+        self.row_fits(kinds, code, r) && (code != Code::For || 1 <= r.for_loop().passes)
+    }
 }
 
-// Whether the record at a place is a statement of the program.
-pub fn statement_fits(file: &[u8], kinds: &[[u8; 8]; 11], c: Scope, place: usize) -> bool
-    requires { IsTable kinds.now × Scoped file.now c × (place + 8 ≤ length file.now / 4) }
-    ensures { result ≡ Reading.statement_fits (scope file.now c) (record_at file.now place) }
+// Whether all are 0.
+fn zeros(ws: &[u32]) -> bool
+    ensures { result ≡ Reading.zeros ws.now }
 {
-    let code = numbers::whole_word(file, place);
-    if code < kernel::codes::SETS {
-        return false;
-    }
-    if kernel::codes::ENDS < code {
-        return false;
-    }
-    if !row_fits(file, kinds, c, place, code) {
-        return false;
-    }
-    if code != kernel::codes::FORS {
-        return true;
-    }
-    let l = parts::loop_of(parts::record_at(file, place));
-    1 <= l.passes
-}
-
-// Whether all four are 0.
-fn zeros(a: u32, b: u32, c: u32, d: u32) -> bool
-    ensures { result ≡ Reading.zeros (a ∷ b ∷ c ∷ d ∷ []) }
-{
-    if a != 0 {
-        return false;
-    }
-    if b != 0 {
-        return false;
-    }
-    if c != 0 {
-        return false;
-    }
-    if d != 0 {
-        return false;
-    }
-    true
+    ws.iter().all(|w| *w == 0)
 }
 
 // ---- arrays
 
-// An input's code or an output's.
+// Whether a code is that of a side.
 fn sided(code: u32) -> bool
     ensures { result ≡ (eqb code 1 || eqb code 2) }
 {
-    if code == kernel::codes::INPUT {
-        return true;
-    }
-    code == kernel::codes::OUTPUT
+    Side::try_from(code).is_ok()
 }
 
 // Whether the index of the order's last item is inside. Any first index, step and count of 32 bits leave it within 64.
@@ -196,123 +168,68 @@ fn last_inside(p: u32, q: u32, k: u32, step: u32) -> bool
     numbers::inside(p, first + numbers::signed(step) * passed)
 }
 
+// Whether a record is an array.
 pub fn array_fits(a: Rec) -> bool
     ensures { result ≡ Reading.array_fits (rec a) }
 {
-    if !sided(a.code) {
-        return false;
-    }
-    if !numbers::between(1, 4096, a.p) {
-        return false;
-    }
-    if !numbers::between(1, a.p, a.k) {
-        return false;
-    }
-    if a.x0 == 0 {
-        return false;
-    }
-    if !numbers::near(4096, a.x0) {
-        return false;
-    }
-    if !zeros(0, a.x1, a.x2, a.x3) {
-        return false;
-    }
-    if a.p <= a.q {
-        return false;
-    }
-    last_inside(a.p, a.q, a.k, a.x0)
+    sided(a.code)
+        && numbers::between(1, 4096, a.p)
+        && numbers::between(1, a.p, a.k)
+        && a.x[0] != 0
+        && numbers::near(4096, a.x[0])
+        && zeros(&a.x[1..])
+        && a.q < a.p
+        && last_inside(a.p, a.q, a.k, a.x[0])
 }
 
 // ---- records of the derivation
 
+// Whether a record's k and x0 to x3 are a form.
 fn form_fits(d: Rec) -> bool
     ensures { result ≡ Reading.form_fits (rec d) }
 {
-    if !numbers::near(1048576, d.k) {
-        return false;
-    }
-    if !numbers::near(1048576, d.x0) {
-        return false;
-    }
-    if !numbers::near(1048576, d.x1) {
-        return false;
-    }
-    if !numbers::near(1048576, d.x2) {
-        return false;
-    }
-    if !numbers::near(1048576, d.x3) {
-        return false;
-    }
-    true
+    numbers::near(1048576, d.k) && d.x.iter().all(|w| numbers::near(1048576, *w))
 }
 
 // Rules 1 to 10.
 fn bare_fits(d: Rec) -> bool
-    ensures { result ≡ (Words.between 1 10 d.code && Reading.zeros (drop 1 (numbers (rec d)))) }
+    ensures { result ≡ (Words.between 1 10 d.code && Reading.zeros (drop 1 (File.numbers (rec d)))) }
 {
-    if !numbers::between(kernel::codes::SAME_RULE, kernel::codes::END_RULE, d.code) {
-        return false;
-    }
-    if !zeros(0, d.p, d.q, d.k) {
-        return false;
-    }
-    zeros(d.x0, d.x1, d.x2, d.x3)
+    let [x0, x1, x2, x3] = d.x;
+    Rule::try_from(d.code).is_ok() && zeros(&[d.p, d.q, d.k, x0, x1, x2, x3])
 }
 
 // The row of code 11.
 fn array_row_fits(arrays: usize, d: Rec) -> bool
     ensures { result ≡ (ltb d.p arrays && eqb d.q 0 && Reading.form_fits (rec d)) }
 {
-    let p = d.p as usize;
-    if arrays <= p {
-        return false;
-    }
-    if d.q != 0 {
-        return false;
-    }
-    form_fits(d)
+    (d.p as usize) < arrays && d.q == 0 && form_fits(d)
 }
 
 // Of a row of code 12: q is -1, for a buffer that holds nothing.
 fn holds_nothing(d: Rec) -> bool
     ensures { result ≡ (eqb d.q Reading.minus_one && Reading.zeros (d.k ∷ (rec d).x)) }
 {
-    if d.q != kernel::codes::MINUS_ONE {
-        return false;
-    }
-    if d.k != 0 {
-        return false;
-    }
-    zeros(d.x0, d.x1, d.x2, d.x3)
+    let [x0, x1, x2, x3] = d.x;
+    d.q == MINUS_ONE && zeros(&[d.k, x0, x1, x2, x3])
 }
 
 // The row of code 12.
-fn buffer_row_fits(arrays: usize, buffers: usize, d: Rec) -> bool
-    ensures { result ≡ (ltb d.p buffers && (eqb d.q Reading.minus_one && Reading.zeros (d.k ∷ (rec d).x) || ltb d.q arrays && Reading.form_fits (rec d))) }
+fn buffer_row_fits(counts: Counts, d: Rec) -> bool
+    ensures { result ≡ (ltb d.p counts.b && (eqb d.q Reading.minus_one && Reading.zeros (d.k ∷ (rec d).x) || ltb d.q counts.a && Reading.form_fits (rec d))) }
 {
-    let p = d.p as usize;
-    if buffers <= p {
-        return false;
-    }
-    if holds_nothing(d) {
-        return true;
-    }
-    let q = d.q as usize;
-    if arrays <= q {
-        return false;
-    }
-    form_fits(d)
+    (d.p as usize) < counts.b && (holds_nothing(d) || (d.q as usize) < counts.a && form_fits(d))
 }
 
-// For a kernel of so many arrays and buffers.
-pub fn rule_fits(arrays: usize, buffers: usize, d: Rec) -> bool
-    ensures { (K : Kernel) → length K.arrays ≡ arrays → K.buffers ≡ buffers → result ≡ Reading.rule_fits K (rec d) }
+// Whether a record stands in the derivation of a kernel of so many arrays and buffers.
+pub fn rule_fits(counts: Counts, d: Rec) -> bool
+    ensures { (K : File.Kernel) → length K.arrays ≡ counts.a → K.buffers ≡ counts.b → result ≡ Reading.rule_fits K (rec d) }
 {
-    if d.code == kernel::codes::POSITION_ROW {
-        return array_row_fits(arrays, d);
+    if d.code == u32::from(Row::Position) {
+        array_row_fits(counts.a, d)
+    } else if d.code == u32::from(Row::Buffer) {
+        buffer_row_fits(counts, d)
+    } else {
+        bare_fits(d)
     }
-    if d.code == kernel::codes::BUFFER_ROW {
-        return buffer_row_fits(arrays, buffers, d);
-    }
-    bare_fits(d)
 }

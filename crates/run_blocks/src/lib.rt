@@ -1,49 +1,47 @@
 // The machine: run of a block and run of a statement call each other, nesting and passes left falling.
 #![tactic(auto)]
 
-ghost use Rattle.std.specs.Prelude.{◌≡◌, ◌<◌, get_or};
+ghost use Rattle.std.specs.Prelude.{◌≡◌, ◌+◌, ◌<◌};
 ghost use Rattle.numbers.specs.Words.{words};
-ghost use Rattle.kernel.specs.File as File;
 ghost use Rattle.kernel.specs.Machine as Machine;
-ghost use Rattle.parts.specs.Parts.{records_in, Lies};
-ghost use Rattle.run_loops.specs.View.{counters, CountersSmall};
-ghost use Rattle.run_ops.specs.States.{state, stopped};
-ghost use Rattle.run_ops.specs.Layout.{layout, Whole};
+ghost use Rattle.kernel.specs.Guarantees.{InBlock};
 ghost use Rattle.kernel.specs.Trees.{tree_at};
-ghost use Rattle.run_blocks.specs.View.{Stands, Due, head, taken};
+ghost use Rattle.parts.specs.Statements.{statement};
+ghost use Rattle.parts.specs.Tables.{rows};
+ghost use Rattle.run_loops.specs.View.{counters, CountersSmall};
+ghost use Rattle.run_ops.specs.States.{state};
+ghost use Rattle.run_ops.specs.Layout.{layout, Whole};
+ghost use Rattle.run_blocks.specs.View.{Stands, Due, placed, ran, head, taken};
 
-use parts::Part;
+use kernel::refusals::Reason;
+use parts::RecordTable;
+use parts::statements::Statement;
 use run_loops::Counters;
+use run_ops::{Layout, State};
 
-// Where a run is stuck: the reason and the statement; reason 0 where it went on.
-#[derive(Clone, Copy)]
+// Where a run is stuck: why, and at which statement.
+#[derive(Clone, Copy, Debug, PartialEq, Eq)]
 pub struct Stuck {
-    pub reason: u8,
+    pub reason: Reason,
     pub at: u16,
 }
 
-fn stuck_at(reason: u8, i: usize) -> Stuck
-    requires { i < 256 }
-    ensures { (result.reason ≡ reason) × (result.at ≡ i) }
+// An answer, with the statement where it is a reason to stick.
+fn stuck_at<T>(answer: Result<T, Reason>, i: usize) -> Result<T, Stuck>
+    requires { i < 1024 }
+    ensures { result ≡ placed i answer }
 {
-    Stuck {
-        reason,
-        at: i as u16,
-    }
+    let at = i as u16;
+    answer.map_err(|reason| Stuck { reason, at })
 }
 
-// The record at which the block begins that the if at record i takes; 0 where its register is unset.
-fn chosen(file: &[u8], part: Part, i: usize, a: Counters, registers: &[u64; 48]) -> usize
-    requires { Due file.now part i File.ifs a }
-    ensures { result ≡ taken (records_in file.now part) i (get_or registers.now (get_or (records_in file.now part) i File.nothing).p 0) }
+// The record at which the block begins that the if at record i takes, by its register's word.
+fn chosen(records: RecordTable, i: usize, w: u32) -> usize
+    requires { InBlock (rows records) (i + 1) }
+    ensures { result ≡ taken (rows records.entry) i w }
 {
-    let p = numbers::word(file, part.at + 8 * i + 1) as usize;
-    let v = registers[p];
-    if v >= run_ops::NO_WORD {
-        return 0;
-    }
-    if v == 0 {
-        return run_ends::end_of(file, part, i + 1) + 1;
+    if w == 0 {
+        return run_ends::end_of(records, i + 1) + 1;
     }
     i + 1
 }
@@ -51,83 +49,60 @@ fn chosen(file: &[u8], part: Part, i: usize, a: Counters, registers: &[u64; 48])
 // Runs the block that begins at record `from`, up to its else, its end or the program's.
 #[cycle(run_block_run_statement)]
 pub fn run_block(
-    file: &[u8],
-    part: Part,
+    records: RecordTable,
     from: usize,
-    a: Counters,
-    sizes: &[u32; 8],
-    bases: &[u32; 8],
-    input: &[u8],
-    regs: &mut [u64; 48],
-    places: &mut [u32; 8],
-    out: &mut [u8],
-) -> Stuck
-    requires { Lies 256 file.now part × Stands (records_in file.now part) from a × CountersSmall a × Whole out.old }
-    ensures { (stopped result.reason result.at (state regs.new places.new (words out.new))
-        ≡ Machine.run (layout sizes.now bases.now (words input.now))
-        (tree_at (records_in file.now part) from) (counters a) (state regs.old places.old (words out.old)))
-        × Whole out.new }
+    a: &Counters,
+    arrays: &Layout,
+    machine: &mut State,
+    output: &mut [u8],
+) -> Result<(), Stuck>
+    requires { Stands (rows records) from a.now × CountersSmall a.now × Whole output.old }
+    ensures { (ran result (state machine.new (words output.new))
+        ≡ Machine.run (layout arrays.now) (tree_at (rows records.entry) from) (counters a.now) (state machine.old (words output.old)))
+        × Whole output.new }
 {
     let mut i = from;
-    while i < part.count {
-        let code = parts::code_in(file, part, i);
-        if code >= kernel::codes::ELSES {
-            return stuck_at(0, 0);
+    // A `while`: which record comes next is found by `next_of`.
+    while let Ok(s) = Statement::try_from(records.record(i)) {
+        if matches!(s, Statement::Else | Statement::End) {
+            break;
         }
-        let s = run_statement(
-            file, part, i, code, a, sizes, bases, input, regs, places, out,
-        );
-        if s.reason != 0 {
-            return s;
-        }
-        i = run_ends::next_of(file, part, i, code);
+        run_statement(records, i, &s, a, arrays, machine, output)?;
+        i = run_ends::next_of(records, i, &s);
     }
-    stuck_at(0, 0)
+    Ok(())
 }
 
-// Runs the statement at record i, whose code was read: it is no else and no end.
+// Runs the statement at record i.
 #[cycle(run_block_run_statement)]
 fn run_statement(
-    file: &[u8],
-    part: Part,
+    records: RecordTable,
     i: usize,
-    code: u32,
-    a: Counters,
-    sizes: &[u32; 8],
-    bases: &[u32; 8],
-    input: &[u8],
-    regs: &mut [u64; 48],
-    places: &mut [u32; 8],
-    out: &mut [u8],
-) -> Stuck
-    requires { Due file.now part i code a × CountersSmall a × Whole out.old }
-    ensures { (stopped result.reason result.at (state regs.new places.new (words out.new))
-        ≡ head (layout sizes.now bases.now (words input.now))
-        (tree_at (records_in file.now part) i) (counters a) (state regs.old places.old (words out.old)))
-        × Whole out.new }
+    s: &Statement,
+    a: &Counters,
+    arrays: &Layout,
+    machine: &mut State,
+    output: &mut [u8],
+) -> Result<(), Stuck>
+    requires { Due (rows records) i (statement s.now) a.now × CountersSmall a.now × Whole output.old }
+    ensures { (ran result (state machine.new (words output.new))
+        ≡ head (layout arrays.now) (tree_at (rows records.entry) i) (counters a.now) (state machine.old (words output.old)))
+        × Whole output.new }
 {
-    if code == kernel::codes::FORS {
-        let l = parts::loop_of(parts::record_in(file, part, i));
-        let mut m = 0;
-        while m < l.passes {
-            let b = run_loops::in_pass(a, l, m);
-            let s = run_block(file, part, i + 1, b, sizes, bases, input, regs, places, out);
-            if s.reason != 0 {
-                return s;
+    match s {
+        Statement::Does(o) => stuck_at(run_ops::perform(o, a, arrays, machine, output), i),
+        Statement::For(l) => {
+            for m in 0..l.passes {
+                let b = a.in_pass(*l, m);
+                run_block(records, i + 1, &b, arrays, machine, output)?;
             }
-            m += 1;
+            Ok(())
         }
-        return stuck_at(0, 0);
-    }
-    if code == kernel::codes::IFS {
-        let block = chosen(file, part, i, a, regs);
-        if block == 0 {
-            return stuck_at(kernel::UNSET, i);
+        Statement::If(p) => {
+            let w = stuck_at(machine.word(*p), i)?;
+            let b = a.in_if();
+            run_block(records, chosen(records, i, w), &b, arrays, machine, output)
         }
-        let b = run_loops::in_if(a);
-        return run_block(file, part, block, b, sizes, bases, input, regs, places, out);
+        Statement::Else | Statement::End => Ok(()),
     }
-    let place = part.at + 8 * i;
-    let reason = run_ops::perform(file, place, code, a, sizes, bases, input, regs, places, out);
-    stuck_at(reason, i)
 }

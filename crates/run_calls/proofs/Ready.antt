@@ -1,4 +1,4 @@
--- What a file that reads is ready for: its two programs lie in it and fit; the first state of a run, and how many items there can be.
+-- What a kernel that was read is ready for: its programs fit; the first state of a run, and how many items there can be.
 use Prim.Native.Nat.{ℕ, zero, suc, ◌*◌, ◌≤◌}
 use mathlib.Core.Path.{◌≡◌, refl, sym, ap, ◌∙◌}
 use mathlib.Core.Bool.{Bool, true, false, cond}
@@ -7,26 +7,25 @@ use mathlib.Core.Option.{none}
 use native.Mathlib.Omega.{arith}
 use native.Mathlib.Nat as NatL
 use lib.ListN.{length, get_or, replicate}
+use Rattle.std.specs.Prelude.{None}
 use Rattle.numbers.specs.Lists.{sum}
 use Rattle.numbers.specs.Words.{words, bytes}
 use Rattle.numbers.specs.Areas.{AllBelow, none_there, below_too}
 use Rattle.numbers.proofs.Areas.{words_bytes, zeros_bytes}
-use Rattle.kernel.specs.File.{Rec, input, output, on, only, length_of, count_of, array}
-use Rattle.kernel.specs.Reading.{array_scope, stream_scope}
+use Rattle.kernel.specs.File.{Rec, Kernel, input, output, on, only, length_of, count_of, array}
+use Rattle.kernel.specs.Reading.{Scope, array_scope, stream_scope}
 use Rattle.kernel.specs.Trees.{tree_at, tree}
 use Rattle.kernel.specs.Memory as Memory
 use Rattle.kernel.specs.Memory.{before, start}
-use Rattle.kernel.specs.Guarantees.{ArrayFits, All, Reads}
-use Rattle.parts.specs.declared.Counts.{Counts}
+use Rattle.kernel.specs.Guarantees.{ArrayFits, All, Nested, Reads}
 use Rattle.parts.specs.declared.Measure.{Measure}
 use Rattle.parts.specs.declared.Measure.TheVariants.{Cells, Items}
-use Rattle.parts.specs.Parts.{kernel, ReadAs, array_part, stream_part}
-use Rattle.parts.specs.Arrays.{arrays_of, measure}
-use Rattle.parts.proofs.Parts.{reads, fills, array_lies, stream_lies}
+use Rattle.parts.specs.Arrays.{measure}
 use Rattle.memory.specs.Sizes.{total, size, base}
+use Rattle.run_ops.specs.declared.Layout.{Layout}
 use Rattle.run_ops.specs.States.{known, state}
 use Rattle.run_ops.specs.Layout.{layout}
-use Rattle.run_calls.specs.View.{Ready}
+use Rattle.run_calls.specs.View.{program}
 
 -- ---- lengths of one side, cells or items, are at most 8,192
 
@@ -43,45 +42,31 @@ unfolding sum measure
 counts_fit side [] f = omega arith
 counts_fit side (a ∷ rs) f = NatL.add-le-add (count_fits side a f.0) (counts_fit side rs f.1)
 
--- ---- of a file that reads
+-- ---- of a kernel that was read
 
-module _ (file : List ℕ) (c : Counts) (e : ReadAs file c) where
-  abbrev r : Reads (kernel file c)
-  r = reads file c e
+-- what reading has found of a program
+pub record Ready (program : List Rec) : Type 0 where
+  pub scope : Scope
+  pub nested : Nested scope [] program
+  pub few_registers : scope.registers ≤ 48
+  pub few_arrays : length scope.arrays ≤ 8
 
-  pub array_ready : Ready file c (array_part c)
-  unfolding kernel
-  array_ready = record {
-    read = e;
-    lies = array_lies file c (fills file c e);
-    scope = array_scope (kernel file c);
-    nested = r.array_program;
-    few_registers = omega (arith, r.few_registers);
-    few_arrays = r.few_arrays;
-  }
+module _ (K : Kernel) (r : Reads K) where
+  pub ready : (m : Measure) → Ready (program m K)
+  unfolding program
+  ready Cells = record { scope = array_scope K; nested = r.array_program; few_registers = omega (arith, r.few_registers); few_arrays = r.few_arrays }
+  ready Items = record { scope = stream_scope K; nested = r.stream_program; few_registers = omega (arith, r.few_registers, r.few_buffers); few_arrays = r.few_arrays }
 
-  pub stream_ready : Ready file c (stream_part c)
-  unfolding kernel
-  stream_ready = record {
-    read = e;
-    lies = stream_lies file c (fills file c e);
-    scope = stream_scope (kernel file c);
-    nested = r.stream_program;
-    few_registers = omega (arith, r.few_registers, r.few_buffers);
-    few_arrays = r.few_arrays;
-  }
-
-  side_few : (side : ℕ) → total side Cells (arrays_of file c.a) ≤ 8192 → (m : Measure) → total side m (arrays_of file c.a) ≤ 8192
-  unfolding kernel
+  side_few : (side : ℕ) → total side Cells K.arrays ≤ 8192 → (m : Measure) → total side m K.arrays ≤ 8192
   side_few side h Cells = h
-  side_few side h Items = NatL.le_trans (counts_fit side (arrays_of file c.a) r.arrays) h
+  side_few side h Items = NatL.le_trans (counts_fit side K.arrays r.arrays) h
 
-  pub inputs_few : (m : Measure) → total input m (arrays_of file c.a) ≤ 8192
-  unfolding kernel measure
+  pub inputs_few : (m : Measure) → total input m K.arrays ≤ 8192
+  unfolding measure
   inputs_few = side_few input r.input_lengths
 
-  pub outputs_few : (m : Measure) → total output m (arrays_of file c.a) ≤ 8192
-  unfolding kernel measure
+  pub outputs_few : (m : Measure) → total output m K.arrays ≤ 8192
+  unfolding measure
   outputs_few = side_few output r.output_lengths
 
 -- ---- the first state
@@ -101,15 +86,15 @@ module _ (area : List ℕ) (n : ℕ) (e : length area ≡ 4 * n) (out : List ℕ
   pub cleared_whole : bytes (words out) ≡ out
   cleared_whole = ap bytes cleared_words ∙ sym cleared
 
-module _ (file : List ℕ) (c : Counts) (m : Measure) where
-  pub layout_is : (sizes bases memory : List ℕ) → ((q : ℕ) → get_or sizes q 0 ≡ size m (arrays_of file c.a) q) → ((q : ℕ) → get_or bases q 0 ≡ base m (arrays_of file c.a) q)
-      → layout sizes bases memory ≡ Memory.layout (measure m) (kernel file c) memory
-  unfolding Memory.layout array before kernel
-  layout_is sizes bases memory u v = λ i. record { size = λ q. u q i; base = λ q. v q i; input = memory }
+module _ (K : Kernel) (m : Measure) where
+  pub layout_is : (l : Layout) → ((q : ℕ) → get_or l.sizes q 0 ≡ size m K.arrays q) → ((q : ℕ) → get_or l.bases q 0 ≡ base m K.arrays q)
+      → layout l ≡ Memory.layout (measure m) K (words l.input.now)
+  unfolding Memory.layout array before
+  layout_is l u v = λ i. record { size = λ q. u q i; base = λ q. v q i; input = words l.input.now }
 
   -- registers unset, places 0, the output's words 0
-  pub start_is : (ws : List ℕ) → ws ≡ replicate (total output m (arrays_of file c.a)) 0 → state (replicate 48 4294967296) (replicate 8 0) ws ≡ start (measure m) (kernel file c)
-  unfolding start Memory.total known kernel
+  pub start_is : (ws : List ℕ) → ws ≡ replicate (total output m K.arrays) 0 → state (record { registers = replicate 48 None; places = replicate 8 0 }) ws ≡ start (measure m) K
+  unfolding start Memory.total known
   start_is ws e = λ i. record { registers = replicate 48 none; places = replicate 8 0; output = e i }
 
 pub tree_is : (rs : List Rec) → tree_at rs 0 ≡ tree rs

@@ -1,35 +1,44 @@
-// The array run, the stream run, laying out and putting back: from a file that was read and the lent memory, and from the bytes of any file.
+// The array run, the stream run, laying out and putting back: by a kernel that was read and the lent memory, and by the bytes of any file.
 #![tactic(auto)]
 
-ghost use Rattle.std.specs.Prelude.{◌≡◌, ◌&&◌, ◌*◌, pos, length};
+ghost use Rattle.std.specs.Prelude.{◌≡◌, ◌&&◌, ◌*◌, cond, length, Ok, Err};
 ghost use Rattle.numbers.specs.Result.{ok};
 ghost use Rattle.numbers.specs.Words.{bytes};
 ghost use Rattle.kernel.specs.File as File;
-ghost use Rattle.parts.specs.Parts.{ReadAs};
-ghost use Rattle.parts.specs.Arrays.{arrays_of, Arrays};
-ghost use Rattle.memory.specs.Sizes.{total};
-ghost use Rattle.run_calls.specs.View.{answer_of, answer, right_length, ran, run_of, Ready};
+ghost use Rattle.parts.specs.Tables.{rows};
+ghost use Rattle.memory.specs.Sizes.{declared, total};
+ghost use Rattle.run_calls.specs.View.{kernel_of, answer_of, answer, right_length, program, ran, run_of};
+ghost use Rattle.run_calls.specs.declared.NotRun.{NotRun};
 ghost use Rattle.run_calls.specs.Promises.{Runs, ArrayRun, StreamRun, LayOut, PutBack};
 
-use parts::{Counts, Measure, Part};
-use read_counts::Read;
+use kernel::codes::Side;
+use kernel::refusals::Unread;
+use parts::{ArrayTable, Kernel, Measure, RecordTable};
+use run_blocks::Stuck;
 use run_loops::Counters;
+use run_ops::{Layout, State};
 
-#[derive(Clone, Copy)]
-pub enum Ran {
-    // number, section, record
-    Refused(u8, u8, u16),
-    // items read, items written
-    Ended(u16, u16),
-    // reason, statement, items read, items written
-    Stuck(u8, u16, u16, u16),
+// A run that was made: how it ended, and how many items were read and written.
+#[derive(Clone, Copy, Debug, PartialEq, Eq)]
+pub struct Ran {
+    pub ending: Result<(), Stuck>,
+    pub read: u16,
+    pub written: u16,
 }
 
-#[derive(Clone, Copy)]
-pub enum Done {
-    // number, section, record
-    Refused(u8, u8, u16),
-    Finished,
+// Why nothing was made: the file does not read, or a lent area has a wrong length.
+#[derive(Clone, Copy, Debug, PartialEq, Eq)]
+pub enum NotRun {
+    Unread(Unread),
+    WrongMemory,
+}
+
+impl From<Unread> for NotRun {
+    ghost from_gives = { λ u n. n ≡ NotRun.Unread u };
+
+    fn from(u: Unread) -> NotRun {
+        NotRun::Unread(u)
+    }
 }
 
 // A lent area: how long it is, and the side whose cells or items it must be as long as.
@@ -37,11 +46,11 @@ pub enum Done {
 struct Area {
     bytes: usize,
     measure: Measure,
-    side: u32,
+    side: Side,
 }
 
 impl Area {
-    fn of(bytes: usize, measure: Measure, side: u32) -> Self
+    fn of(bytes: usize, measure: Measure, side: Side) -> Self
         ensures { result ≡ record { bytes = bytes; measure = measure; side = side } }
     {
         Area {
@@ -50,168 +59,151 @@ impl Area {
             side,
         }
     }
-}
 
-// Whether an area has its right length.
-fn right_length(file: &[u8], n: usize, area: Area) -> bool
-    requires { Arrays file.now n }
-    ensures { result ≡ right_length file.now n area }
-{
-    let measure = area.measure;
-    area.bytes == 4 * (memory::total(file, n, measure, area.side) as usize)
-}
-
-// Whether both areas of a call have theirs.
-fn right_lengths(file: &[u8], n: usize, first: Area, second: Area) -> bool
-    requires { Arrays file.now n }
-    ensures { result ≡ (right_length file.now n first && right_length file.now n second) }
-{
-    if !right_length(file, n, first) {
-        return false;
+    // Whether it has its right length.
+    fn right_length(self, arrays: ArrayTable) -> bool
+        ensures { result ≡ right_length (declared arrays.entry) self }
+    {
+        let words = memory::total(arrays, arrays.count, self.measure, self.side);
+        self.bytes == 4 * (words as usize)
     }
-    right_length(file, n, second)
+}
+
+// Refuses a call whose areas do not both have theirs.
+fn right_lengths(k: Kernel, first: Area, second: Area) -> Result<(), NotRun>
+    ensures { result ≡ cond (right_length (kernel_of k.entry).arrays first && right_length (kernel_of k.entry).arrays second)
+        (Ok tt) (Err NotRun.WrongMemory) }
+{
+    let arrays = k.arrays();
+    if first.right_length(arrays) && second.right_length(arrays) {
+        Ok(())
+    } else {
+        Err(NotRun::WrongMemory)
+    }
 }
 
 // ---- runs
 
 // Outside all loops.
-fn outside() -> Counters
-    ensures { result ≡ record { left = 8; level = 0; c0 = pos 0; c1 = pos 0; c2 = pos 0; c3 = pos 0 } }
+const OUTSIDE: Counters = Counters {
+    left: 8,
+    level: 0,
+    values: [0; 4],
+};
+
+// The program over cells, or over items.
+fn program<'a>(k: Kernel<'a>, m: Measure) -> RecordTable<'a>
+    ensures { rows result ≡ program m (kernel_of k.entry) }
 {
-    Counters {
-        left: 8,
-        level: 0,
-        c0: 0,
-        c1: 0,
-        c2: 0,
-        c3: 0,
+    let sections = k.sections();
+    match m {
+        Measure::Cells => sections.array_program(),
+        Measure::Items => sections.stream_program(),
     }
 }
 
 // A run that starts: the output is cleared, the registers are unset and every stream is at its first item, whatever the last run wrote.
-fn started(file: &[u8], c: Counts, part: Part, m: Measure, input: &[u8], output: &mut [u8]) -> Ran
-    requires { Ready file.now c part × (length output.old ≡ 4 * total File.output m (arrays_of file.now c.a)) }
-    ensures { (answer result ≡ answer_of (ok (ran m file.now c part input.now)))
-        × (output.new ≡ bytes (ran m file.now c part input.now).memory) }
+fn started(k: Kernel, m: Measure, input: &[u8], output: &mut [u8]) -> Ran
+    requires { length output.old ≡ 4 * total File.output m (kernel_of k).arrays }
+    ensures { (answer (Ok result) ≡ answer_of (ok (ran m (kernel_of k.entry) input.now)))
+        × (output.new ≡ bytes (ran m (kernel_of k.entry) input.now).memory) }
 {
     memory::clear(output);
-    let sizes = memory::sizes(file, c.a, m);
-    let bases = memory::bases(file, c.a, m);
-    let mut registers: [u64; 48] = [run_ops::NO_WORD; 48];
-    let mut places: [u32; 8] = [0; 8];
-    let s = run_blocks::run_block(
-        file,
-        part,
-        0,
-        outside(),
-        &sizes,
-        &bases,
+    let arrays = k.arrays();
+    let layout = Layout {
+        sizes: memory::sizes(arrays, m),
+        bases: memory::bases(arrays, m),
         input,
-        &mut registers,
-        &mut places,
-        output,
-    );
-    let read = memory::moved(file, c.a, kernel::codes::INPUT, &places) as u16;
-    let written = memory::moved(file, c.a, kernel::codes::OUTPUT, &places) as u16;
-    if s.reason == 0 {
-        return Ran::Ended(read, written);
+    };
+    let mut machine = State {
+        registers: [None; 48],
+        places: [0; 8],
+    };
+    let ending = run_blocks::run_block(program(k, m), 0, &OUTSIDE, &layout, &mut machine, output);
+    let read = memory::moved(arrays, Side::Input, &machine.places) as u16;
+    let written = memory::moved(arrays, Side::Output, &machine.places) as u16;
+    Ran {
+        ending,
+        read,
+        written,
     }
-    Ran::Stuck(s.reason, s.at, read, written)
 }
 
 // The same, where both areas are as long as they must be.
-fn run(file: &[u8], c: Counts, part: Part, m: Measure, input: &[u8], output: &mut [u8]) -> Ran
-    requires { Ready file.now c part }
-    ensures { Runs (run_of m file.now c part input.now output.old) output.old result output.new }
+fn run(k: Kernel, m: Measure, input: &[u8], output: &mut [u8]) -> Result<Ran, NotRun>
+    ensures { Runs (run_of m (kernel_of k.entry) input.now output.old) output.old result output.new }
 {
-    let first = Area::of(input.len(), m, kernel::codes::INPUT);
-    let second = Area::of(output.len(), m, kernel::codes::OUTPUT);
-    if !right_lengths(file, c.a, first, second) {
-        return Ran::Refused(kernel::WRONG_MEMORY, 0, 0);
-    }
-    started(file, c, part, m, input, output)
+    let first = Area::of(input.len(), m, Side::Input);
+    let second = Area::of(output.len(), m, Side::Output);
+    right_lengths(k, first, second)?;
+    Ok(started(k, m, input, output))
 }
 
-// The array run of a file that reads with these counts.
-pub fn array_run_of(file: &[u8], c: Counts, input: &[u8], output: &mut [u8]) -> Ran
-    requires { ReadAs file.now c }
+// The calls below are the names that the C boundary, the demands and document 01 have for them: each two of a kind share all their work, and differ in what
+// they hand to it.
+
+// The array run of a kernel.
+pub fn array_run_of(k: Kernel, input: &[u8], output: &mut [u8]) -> Result<Ran, NotRun>
+    ensures { ArrayRun k.entry.file.now input.now output.old result output.new }
+{
+    run(k, Measure::Cells, input, output)
+}
+
+// The stream run of a kernel.
+pub fn stream_run_of(k: Kernel, input: &[u8], output: &mut [u8]) -> Result<Ran, NotRun>
+    ensures { StreamRun k.entry.file.now input.now output.old result output.new }
+{
+    run(k, Measure::Items, input, output)
+}
+
+// The array run of any file.
+pub fn array_run(file: &[u8], input: &[u8], output: &mut [u8]) -> Result<Ran, NotRun>
     ensures { ArrayRun file.now input.now output.old result output.new }
 {
-    let part = parts::array_part(c);
-    run(file, c, part, Measure::Cells, input, output)
+    array_run_of(read_file::read(file)?, input, output)
 }
 
-// The stream run of a file that reads with these counts.
-pub fn stream_run_of(file: &[u8], c: Counts, input: &[u8], output: &mut [u8]) -> Ran
-    requires { ReadAs file.now c }
+// The stream run of any file.
+pub fn stream_run(file: &[u8], input: &[u8], output: &mut [u8]) -> Result<Ran, NotRun>
     ensures { StreamRun file.now input.now output.old result output.new }
 {
-    let part = parts::stream_part(c);
-    run(file, c, part, Measure::Items, input, output)
-}
-
-pub fn array_run(file: &[u8], input: &[u8], output: &mut [u8]) -> Ran
-    ensures { ArrayRun file.now input.now output.old result output.new }
-{
-    match read_file::read(file) {
-        Read::Kernel(c) => array_run_of(file, c, input, output),
-        Read::Refused(number, section, place) => Ran::Refused(number, section, place),
-    }
-}
-
-pub fn stream_run(file: &[u8], input: &[u8], output: &mut [u8]) -> Ran
-    ensures { StreamRun file.now input.now output.old result output.new }
-{
-    match read_file::read(file) {
-        Read::Kernel(c) => stream_run_of(file, c, input, output),
-        Read::Refused(number, section, place) => Ran::Refused(number, section, place),
-    }
+    stream_run_of(read_file::read(file)?, input, output)
 }
 
 // ---- laying out and putting back
 
-// Laying out by a file that reads with these counts.
-pub fn lay_out_of(file: &[u8], c: Counts, arrays: &[u8], streams: &mut [u8]) -> Done
-    requires { ReadAs file.now c }
+// Laying out by a kernel.
+pub fn lay_out_of(k: Kernel, arrays: &[u8], streams: &mut [u8]) -> Result<(), NotRun>
+    ensures { LayOut k.entry.file.now arrays.now streams.old result streams.new }
+{
+    let first = Area::of(arrays.len(), Measure::Cells, Side::Input);
+    let second = Area::of(streams.len(), Measure::Items, Side::Input);
+    right_lengths(k, first, second)?;
+    memory::lay_out(k.arrays(), arrays, streams);
+    Ok(())
+}
+
+// Putting back by a kernel.
+pub fn put_back_of(k: Kernel, streams: &[u8], arrays: &mut [u8]) -> Result<(), NotRun>
+    ensures { PutBack k.entry.file.now streams.now arrays.old result arrays.new }
+{
+    let first = Area::of(streams.len(), Measure::Items, Side::Output);
+    let second = Area::of(arrays.len(), Measure::Cells, Side::Output);
+    right_lengths(k, first, second)?;
+    memory::put_back(k.arrays(), streams, arrays);
+    Ok(())
+}
+
+// Laying out by any file.
+pub fn lay_out(file: &[u8], arrays: &[u8], streams: &mut [u8]) -> Result<(), NotRun>
     ensures { LayOut file.now arrays.now streams.old result streams.new }
 {
-    let first = Area::of(arrays.len(), Measure::Cells, kernel::codes::INPUT);
-    let second = Area::of(streams.len(), Measure::Items, kernel::codes::INPUT);
-    if !right_lengths(file, c.a, first, second) {
-        return Done::Refused(kernel::WRONG_MEMORY, 0, 0);
-    }
-    memory::lay_out(file, c.a, arrays, streams);
-    Done::Finished
+    lay_out_of(read_file::read(file)?, arrays, streams)
 }
 
-// Putting back by a file that reads with these counts.
-pub fn put_back_of(file: &[u8], c: Counts, streams: &[u8], arrays: &mut [u8]) -> Done
-    requires { ReadAs file.now c }
+// Putting back by any file.
+pub fn put_back(file: &[u8], streams: &[u8], arrays: &mut [u8]) -> Result<(), NotRun>
     ensures { PutBack file.now streams.now arrays.old result arrays.new }
 {
-    let first = Area::of(streams.len(), Measure::Items, kernel::codes::OUTPUT);
-    let second = Area::of(arrays.len(), Measure::Cells, kernel::codes::OUTPUT);
-    if !right_lengths(file, c.a, first, second) {
-        return Done::Refused(kernel::WRONG_MEMORY, 0, 0);
-    }
-    memory::put_back(file, c.a, streams, arrays);
-    Done::Finished
-}
-
-pub fn lay_out(file: &[u8], arrays: &[u8], streams: &mut [u8]) -> Done
-    ensures { LayOut file.now arrays.now streams.old result streams.new }
-{
-    match read_file::read(file) {
-        Read::Kernel(c) => lay_out_of(file, c, arrays, streams),
-        Read::Refused(number, section, place) => Done::Refused(number, section, place),
-    }
-}
-
-pub fn put_back(file: &[u8], streams: &[u8], arrays: &mut [u8]) -> Done
-    ensures { PutBack file.now streams.now arrays.old result arrays.new }
-{
-    match read_file::read(file) {
-        Read::Kernel(c) => put_back_of(file, c, streams, arrays),
-        Read::Refused(number, section, place) => Done::Refused(number, section, place),
-    }
+    put_back_of(read_file::read(file)?, streams, arrays)
 }

@@ -1,19 +1,25 @@
 -- Looking through the records for a block's end. What holds at each turn: `d` elses and ends come before the one sought, each of which ends a block that begins
 -- after the one before it; a for puts one more of them before it, an if two, and an else or end takes one away.
 use Prim.Native.Nat.{ℕ, zero, suc, ◌+◌, ◌-◌, ◌≤◌, ◌<◌}
+use Rattle.std.specs.Prelude.{Err}
 use mathlib.Core.Path.{◌≡◌, sym, ap, subst, ◌∙◌}
 use mathlib.Core.Bool.{Bool, true, false, cond}
 use mathlib.Core.List.{List}
 use native.Mathlib.Omega.{arith}
 use native.Mathlib.Decide.{dec_lt, ℕ_discrete}
+use native.Mathlib.Nat.{add-zero}
 use lib.Dec.{eqb, leb}
-use lib.ListN.{length, get_or}
+use lib.ListN.{length, get_or, drop, length-drop}
+use lib.Seq.{get_or-drop}
 use borrow.Author.Tests.{eq-eqb, ne_eqb, le-leb, lt-leb}
-use Rattle.kernel.specs.File.{Rec, nothing}
+use Rattle.kernel.specs.File.{Rec, nothing, statement}
+use Rattle.kernel.specs.Named.{coded, no_code}
 use Rattle.kernel.specs.Reading.{Scope, Open}
-use Rattle.kernel.specs.Guarantees.{InBlock}
+use Rattle.kernel.specs.Guarantees.{StatementFits, InBlock}
 use Rattle.kernel.specs.Blocks.{Block}
 use Rattle.kernel.specs.Trees.{tree_at, stop_of}
+use Rattle.kernel.proofs.Named.{says_nothing}
+use Rattle.kernel.proofs.Sayings.{fits_at}
 use Rattle.kernel.proofs.Fronts.{open_there, through, block_low, ReadBlock, plain_at, loop_at, branch_at, stop_at}
 use Rattle.kernel.proofs.Trees.{block_at}
 use Rattle.run_ends.specs.View.{depth_after}
@@ -70,6 +76,11 @@ module _ (rs : List Rec) where
   ahead_low zero j e h = block_low h.is.is
   ahead_low (suc d) j e (m, h, more) = omega (arith, block_low h.is.is, ahead_low d (suc m) e more)
 
+  first_row : (d j e : ℕ) → Ahead d j e → (m : ℕ) × Row j m
+  unfolding Ahead
+  first_row zero j e h = (e, h)
+  first_row (suc d) j e (m, h, more) = (m, h)
+
   -- the first block made shorter at its front, or taken apart
   past_plain : (d j e : ℕ) → ((m : ℕ) → Row j m → Row (suc j) m) → Ahead d j e → Ahead d (suc j) e
   unfolding Ahead
@@ -107,6 +118,13 @@ module _ (rs : List Rec) where
           record { scope = r.scope; opens = _; block = _; is = f.inner },
           (f.end_at, record { scope = r.scope; opens = _; block = _; is = f.other }, record { scope = r.scope; opens = _; block = _; is = f.more }),
         )
+
+    -- it has a code
+    row_coded : (m : ℕ) × Row j m → coded code ≡ Err no_code → ⊥
+    row_coded (m, r) e =
+        let f = fits_at r.is.reads 0 (simp length-drop (omega arith)) in
+        let same : get_or (drop j rs) 0 nothing ≡ get_or rs j nothing = get_or-drop j rs 0 nothing ∙ ap (λ n. get_or rs n nothing) (add-zero j) in
+        subst (StatementFits r.scope) (ap statement same ∙ says_nothing (get_or rs j nothing) e) f
 
     -- an else or end
     stop_row : 10 ≤ code → (m : ℕ) → Row j m → j ≡ m
@@ -150,6 +168,9 @@ module _ (rs : List Rec) where
   module _ (i d j : ℕ) (s : Scanning i d j) where
     pub scan_there : j < length rs
     scan_there = omega (arith, ahead_low d j (stop_of (tree_at rs i)) s.ahead, s.inside)
+
+    pub scan_coded : coded (get_or rs j nothing).code ≡ Err no_code → ⊥
+    scan_coded = row_coded j scan_there (first_row d j (stop_of (tree_at rs i)) s.ahead)
 
     pub scan_on : (10 ≤ (get_or rs j nothing).code → 1 ≤ d) → Scanning i (depth_after d (get_or rs j nothing).code) (j + 1)
     scan_on z =

@@ -1,63 +1,61 @@
 // Where a block of a program ends, and the record after a statement: found by looking through the records.
 #![tactic(auto)]
 
-ghost use Rattle.std.specs.Prelude.{◌≡◌, ◌≤◌, ◌<◌, get_or};
-ghost use Rattle.kernel.specs.File as File;
-ghost use Rattle.parts.specs.Parts.{records_in, Lies};
+ghost use Rattle.std.specs.Prelude.{◌≡◌, ◌≤◌, ◌<◌, length};
+ghost use Rattle.kernel.specs.Named.{code};
+ghost use Rattle.kernel.specs.Blocks.{said};
+ghost use Rattle.parts.specs.Statements.{statement};
+ghost use Rattle.parts.specs.Tables.{rows};
 ghost use Rattle.run_ends.specs.View as View;
 ghost use Rattle.kernel.specs.Guarantees.{Begins, InBlock};
 ghost use Rattle.kernel.specs.Trees.{tree_at, stop_of, after_first};
 
-use parts::Part;
+use kernel::codes::Code;
+use parts::RecordTable;
+use parts::statements::Statement;
 
 // The elses and ends to pass over after a record of this code.
-fn depth_after(depth: usize, code: u32) -> usize
-    requires { (depth ≤ 512) × (10 ≤ code → 1 ≤ depth) }
-    ensures { result ≡ View.depth_after depth code }
+fn depth_after(depth: usize, c: Code) -> usize
+    requires { (depth ≤ 2048) × (10 ≤ code c → 1 ≤ depth) }
+    ensures { result ≡ View.depth_after depth (code c) }
 {
-    if code == kernel::codes::FORS {
-        return depth + 1;
+    match c {
+        Code::For => depth + 1,
+        Code::If => depth + 2,
+        Code::Else | Code::End => depth - 1,
+        _ => depth,
     }
-    if code == kernel::codes::IFS {
-        return depth + 2;
-    }
-    if code >= kernel::codes::ELSES {
-        return depth - 1;
-    }
-    depth
 }
 
 // The else or end at which the block stops that begins at record i.
-pub fn end_of(file: &[u8], part: Part, i: usize) -> usize
-    requires { Lies 256 file.now part × InBlock (records_in file.now part) i }
-    ensures { result ≡ stop_of (tree_at (records_in file.now part) i) }
+pub fn end_of(records: RecordTable, i: usize) -> usize
+    requires { InBlock (rows records) i }
+    ensures { result ≡ stop_of (tree_at (rows records.entry) i) }
 {
     let mut depth = 0;
-    let mut j = i;
-    loop {
-        let code = parts::code_in(file, part, j);
-        if kernel::codes::ELSES <= code {
-            if depth == 0 {
-                return j;
-            }
+    for j in i..records.part.count {
+        let Ok(c) = Code::try_from(records.code(j)) else {
+            break;
+        };
+        if depth == 0 && matches!(c, Code::Else | Code::End) {
+            return j;
         }
-        depth = depth_after(depth, code);
-        j += 1;
+        depth = depth_after(depth, c);
     }
+    records.part.count
 }
 
-// The record after the statement at record i, whose code was read.
-pub fn next_of(file: &[u8], part: Part, i: usize, code: u32) -> usize
-    requires { Lies 256 file.now part × (i < part.count) × (code ≡ (get_or (records_in file.now part) i File.nothing).code)
-        × Begins (records_in file.now part) i }
-    ensures { result ≡ after_first (tree_at (records_in file.now part) i) }
+// The record after the statement at record i.
+pub fn next_of(records: RecordTable, i: usize, s: &Statement) -> usize
+    requires { (statement s.now ≡ said (rows records) i) × (i < length (rows records)) × Begins (rows records) i }
+    ensures { result ≡ after_first (tree_at (rows records.entry) i) }
 {
-    if code == kernel::codes::FORS {
-        return end_of(file, part, i + 1) + 1;
+    match s {
+        Statement::For(_) => end_of(records, i + 1) + 1,
+        Statement::If(_) => {
+            let other = end_of(records, i + 1) + 1;
+            end_of(records, other) + 1
+        }
+        _ => i + 1,
     }
-    if code == kernel::codes::IFS {
-        let other = end_of(file, part, i + 1) + 1;
-        return end_of(file, part, other) + 1;
-    }
-    i + 1
 }

@@ -1,7 +1,7 @@
 // The counters of the loops around a statement, and how they change at a for and at an if.
 #![tactic(auto)]
 
-ghost use Rattle.std.specs.Prelude.{◌≡◌, ◌-◌, ◌^◌, ◌≤◌, ◌<◌, set};
+ghost use Rattle.std.specs.Prelude.{◌≡◌, ◌-◌, ◌^◌, ◌≤◌, ◌<◌};
 ghost use Rattle.numbers.specs.Bounds.{Small};
 ghost use Rattle.forms.specs.Form as F;
 ghost use Rattle.forms.specs.Code.{loop};
@@ -16,10 +16,7 @@ use forms::Loop;
 pub struct Counters {
     pub left: usize,
     pub level: usize,
-    pub c0: i64,
-    pub c1: i64,
-    pub c2: i64,
-    pub c3: i64,
+    pub values: [i64; 4],
 }
 
 // The counter in pass m.
@@ -30,37 +27,26 @@ fn counter(l: Loop, m: usize) -> i64
     l.first + l.step * (m as i64)
 }
 
-// With c for the counter of the level that is the next.
-fn counting(mut a: Counters, c: i64) -> Counters
-    requires { a.level < 4 }
-    ensures { (counters result ≡ record { level = a.level; values = set (counters a).values a.level c }) × (result.left ≡ a.left) }
-{
-    let level = a.level;
-    match level {
-        0 => a.c0 = c,
-        1 => a.c1 = c,
-        2 => a.c2 = c,
-        _ => a.c3 = c,
+impl Counters {
+    // The counters in the body of a loop, in pass m.
+    pub fn in_pass(mut self, l: Loop, m: usize) -> Self
+        requires { CountersSmall self × LoopFits (loop l) × (m < l.passes) × (1 ≤ self.left) × (self.level < 4) }
+        ensures { (counters result ≡ Machine.in_pass (loop l) (counters self) m) × (result.left ≡ self.left - 1) × CountersSmall result }
+    {
+        self.values[self.level] = counter(l, m);
+        self.left -= 1;
+        self.level += 1;
+        self
     }
-    a
-}
 
-// The counters in the body of a loop, in pass m.
-pub fn in_pass(a: Counters, l: Loop, m: usize) -> Counters
-    requires { CountersSmall a × LoopFits (loop l) × (m < l.passes) × (1 ≤ a.left) × (a.level < 4) }
-    ensures { (counters result ≡ Machine.in_pass (loop l) (counters a) m) × (result.left ≡ a.left - 1) × CountersSmall result }
-{
-    let mut inner = counting(a, counter(l, m));
-    inner.left -= 1;
-    inner.level += 1;
-    inner
-}
-
-// The counters in a block of an if.
-pub fn in_if(mut a: Counters) -> Counters
-    requires { 1 ≤ a.left }
-    ensures { result ≡ record { left = a.left - 1; level = a.level; c0 = a.c0; c1 = a.c1; c2 = a.c2; c3 = a.c3 } }
-{
-    a.left -= 1;
-    a
+    // The counters in a block of an if.
+    pub fn in_if(self) -> Self
+        requires { 1 ≤ self.left }
+        ensures { result ≡ record self { left = self.left - 1 } }
+    {
+        Counters {
+            left: self.left - 1,
+            ..self
+        }
+    }
 }

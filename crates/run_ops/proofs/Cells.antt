@@ -1,27 +1,25 @@
--- What setting, loading, storing, reading and writing come to.
-use Prim.Native.Nat.{ℕ, ◌+◌, ◌^◌, ◌≤◌, ◌<◌}
-use mathlib.Core.Path.{◌≡◌, refl, sym, ap, subst, ◌∙◌}
+-- What loading, storing, reading and writing come to.
+use Rattle.std.specs.Prelude.{Some}
+use Prim.Native.Nat.{ℕ, ◌+◌, ◌^◌, ◌<◌}
+use mathlib.Core.Path.{◌≡◌, sym, ap, subst, ◌∙◌}
 use mathlib.Core.List.{List}
 use lib.ListN
 use lib.ListN.{get_or}
-use lib.IntN.{pos}
-use Rattle.numbers.specs.Result.{Result, ok, stop}
-use Rattle.numbers.specs.Words.{words, low32}
+use lib.IntN.{ℤ, pos}
+use Rattle.numbers.specs.Result.{ok, stop}
+use Rattle.numbers.specs.Words.{words}
 use Rattle.numbers.specs.Areas.{word, put_word}
 use Rattle.numbers.proofs.Areas.{words_put, put_whole}
 use Rattle.forms.specs.Form.{Form, value}
-use Rattle.kernel.specs.File.{set, load, store, read, write}
-use Rattle.kernel.specs.Machine.{Layout, State, Counters, place, advance, put, cell, keep, cell_number, perform, step}
-use Rattle.run_ops.specs.States.{state, stopped}
-use Rattle.run_ops.proofs.States.{goes_on, stops, ends, sticks, got, not_got, put_there}
-use Rattle.run_ops.specs.Layout.{layout, Whole}
-
--- ---- memory
-
--- word b + i of the input, where b is the base that the code found
-pub cell_there : (sizes bases input : List ℕ) (q i : ℕ) {b v : ℕ} → b ≡ get_or bases q 0 → v ≡ word input (b + i) → v ≡ cell (layout sizes bases (words input)) q i
-unfolding cell word
-cell_there sizes bases input q i base e = e ∙ ap (λ b. get_or (words input) (b + i) 0) base
+use Rattle.kernel.specs.File.{load, store, read, write}
+use Rattle.kernel.specs.Machine.{place, advance, put, get, cell, keep, perform}
+use Rattle.kernel.specs.Machine as Machine
+use Rattle.run_ops.specs.declared.State.{State}
+use Rattle.run_ops.specs.declared.Layout.{Layout}
+use Rattle.run_ops.specs.States.{state}
+use Rattle.run_ops.specs.Layout.{layout, cell_at, Whole}
+use Rattle.run_ops.proofs.States.{goes_on, stops, put_there}
+use Rattle.run_ops.proofs.Index.{found, not_found}
 
 -- an area of which one word was changed
 module _ (area : List ℕ) {after : List ℕ} (k v : ℕ) (small : v < 2 ^ 32) (e : after ≡ put_word area k v) where
@@ -31,71 +29,77 @@ module _ (area : List ℕ) {after : List ℕ} (k v : ℕ) (small : v < 2 ^ 32) (
   pub whole_after : Whole area → Whole after
   whole_after h = subst Whole (sym e) (put_whole area k v small h)
 
--- ---- statements
+module _ (l : Layout) (cs : List ℤ) (s : State) (p q : ℕ) where
+  abbrev e : Machine.Layout
+  e = layout l
 
-module _ (e : Layout) (n : ℕ) (c : Counters) (rs ps ws : List ℕ) (p : ℕ) where
-  abbrev s : State
-  s = state rs ps ws
+  -- register p with the word at a place of the input
+  abbrev taking : ℕ → State
+  taking v = record { registers = ListN.set s.registers p (Some v); places = s.places }
 
-  pub sets : (f : Form) (v : ℕ) → v < 2 ^ 32 → v ≡ low32 (value f c.values) → stopped 0 n (state (ListN.set rs p v) ps ws) ≡ step e n (set p f) c s
-  unfolding perform
-  sets f v h is = ends e n (set p f) c s (ap ok (ap (λ w. put p w s) (sym is) ∙ put_there rs ps ws p v h))
+  took : (ws : List ℕ) (i : ℕ) {at v : ℕ} → at ≡ e.base q + i → v ≡ word l.input.now at → put p (cell e q i) (state s ws) ≡ state (taking v) ws
+  unfolding cell word
+  took ws i {v} there is = ap (λ w. put p w (state s ws)) (sym (is ∙ ap (λ k. get_or (words l.input.now) k 0) there)) ∙ put_there s ws p v
 
-  module _ (q : ℕ) where
-    -- at an index form
+  -- one more of stream q
+  abbrev next : State → State
+  next t = record { registers = t.registers; places = ListN.set s.places q (get_or s.places q 0 + 1) }
+
+  -- ---- to a register
+
+  module _ (ws : List ℕ) where
     module _ (f : Form) where
-      abbrev number : Result ℕ ℕ
-      number = cell_number 33 (e.size q) (value f c.values)
-
-      pub load_outside : number ≡ stop 33 → stopped 33 n s ≡ step e n (load p q f) c s
+      pub load_sticks : (k : ℕ) → cell_at e q 33 (value f cs) ≡ stop k → perform e cs (load p q f) (state s ws) ≡ stop k
       unfolding perform
-      load_outside at = sticks e n (load p q f) c s 33 refl (stops _ at)
+      load_sticks k h = stops _ (not_found e q 33 (value f cs) k h)
 
-      pub loads : {i : ℕ} → number ≡ ok i → (v : ℕ) → v < 2 ^ 32 → v ≡ cell e q i → stopped 0 n (state (ListN.set rs p v) ps ws) ≡ step e n (load p q f) c s
+      pub loads : {at v : ℕ} → cell_at e q 33 (value f cs) ≡ ok at → v ≡ word l.input.now at → perform e cs (load p q f) (state s ws) ≡ ok (state (taking v) ws)
       unfolding perform
-      loads at v h is =
-          ends e n (load p q f) c s (goes_on _ at (ap ok (ap (λ w. put p w s) (sym is) ∙ put_there rs ps ws p v h)))
+      loads {at} h is =
+          let i = found e q 33 (value f cs) at h in
+          goes_on _ i.number (ap ok (took ws i.index i.there is))
 
-      pub store_unset : 2 ^ 32 ≤ get_or rs p 0 → stopped 31 n s ≡ step e n (store p q f) c s
-      unfolding perform
-      store_unset h = sticks e n (store p q f) c s 31 refl (stops _ (not_got rs ps ws p h))
+    abbrev here : ℤ
+    here = pos (get_or s.places q 0)
 
-      module _ (h : get_or rs p 0 < 2 ^ 32) where
-        pub store_outside : number ≡ stop 33 → stopped 33 n s ≡ step e n (store p q f) c s
-        unfolding perform
-        store_outside at = sticks e n (store p q f) c s 33 refl (goes_on _ (got rs ps ws p h) (stops _ at))
-
-        pub stores : {i b : ℕ} → number ≡ ok i → b ≡ e.base q → {ws' : List ℕ} → ws' ≡ ListN.set ws (b + i) (get_or rs p 0) → stopped 0 n (state rs ps ws') ≡ step e n (store p q f) c s
-        unfolding perform keep
-        stores {i} at base is =
-            ends e n (store p q f) c s
-            (goes_on _ (got rs ps ws p h) (goes_on _ at (ap (λ l. ok (state rs ps l)) (sym (is ∙ ap (λ b. ListN.set ws (b + i) (get_or rs p 0)) base)))))
-
-    -- at the stream's place
-    pub read_empty : cell_number 34 (e.size q) (pos (get_or ps q 0)) ≡ stop 34 → stopped 34 n s ≡ step e n (read p q) c s
+    pub read_sticks : (k : ℕ) → cell_at e q 34 here ≡ stop k → perform e cs (read p q) (state s ws) ≡ stop k
     unfolding perform place
-    read_empty at = sticks e n (read p q) c s 34 refl (stops _ at)
+    read_sticks k h = stops _ (not_found e q 34 here k h)
 
-    pub reads : {i : ℕ} → cell_number 34 (e.size q) (pos (get_or ps q 0)) ≡ ok i → (v : ℕ) → v < 2 ^ 32 → v ≡ cell e q i → i ≡ get_or ps q 0
-        → stopped 0 n (state (ListN.set rs p v) (ListN.set ps q (i + 1)) ws) ≡ step e n (read p q) c s
+    pub reads : {at v : ℕ} → cell_at e q 34 here ≡ ok at → v ≡ word l.input.now at → perform e cs (read p q) (state s ws) ≡ ok (state (next (taking v)) ws)
     unfolding perform place advance
-    reads at v h is here =
-        ends e n (read p q) c s
-        (goes_on _ at (ap (λ x. ok (advance q x)) (ap (λ w. put p w s) (sym is) ∙ put_there rs ps ws p v h) ∙ ap (λ i. ok (state (ListN.set rs p v) (ListN.set ps q (i + 1)) ws)) (sym here)))
+    reads {at} h is =
+        let i = found e q 34 here at h in
+        goes_on _ i.number (ap (λ t. ok (advance q t)) (took ws i.index i.there is))
 
-    pub write_unset : 2 ^ 32 ≤ get_or rs p 0 → stopped 31 n s ≡ step e n (write p q) c s
-    unfolding perform
-    write_unset h = sticks e n (write p q) c s 31 refl (stops _ (not_got rs ps ws p h))
+  -- ---- to the output
 
-    module _ (h : get_or rs p 0 < 2 ^ 32) where
-      pub write_full : cell_number 35 (e.size q) (pos (get_or ps q 0)) ≡ stop 35 → stopped 35 n s ≡ step e n (write p q) c s
+  module _ (area : List ℕ) where
+    abbrev before : Machine.State
+    before = state s (words area)
+
+    keeps : (i w : ℕ) {at : ℕ} {after : List ℕ} → at ≡ e.base q + i → w < 2 ^ 32 → after ≡ put_word area at w → keep e q i w before ≡ state s (words after)
+    unfolding keep
+    keeps i w {at} there small is = ap (state s) (sym (words_after area at w small is ∙ ap (λ k. ListN.set (words area) k w) there))
+
+    module _ (w : ℕ) (has : get p before ≡ ok w) where
+      module _ (f : Form) where
+        pub store_sticks : (k : ℕ) → cell_at e q 33 (value f cs) ≡ stop k → perform e cs (store p q f) before ≡ stop k
+        unfolding perform
+        store_sticks k h = goes_on _ has (stops _ (not_found e q 33 (value f cs) k h))
+
+        pub stores : {at : ℕ} {after : List ℕ} → cell_at e q 33 (value f cs) ≡ ok at → w < 2 ^ 32 → after ≡ put_word area at w → perform e cs (store p q f) before ≡ ok (state s (words after))
+        unfolding perform
+        stores {at} h small is =
+            let i = found e q 33 (value f cs) at h in
+            goes_on _ has (goes_on _ i.number (ap ok (keeps i.index w i.there small is)))
+
+      pub write_sticks : (k : ℕ) → cell_at e q 35 (pos (get_or s.places q 0)) ≡ stop k → perform e cs (write p q) before ≡ stop k
       unfolding perform place
-      write_full at = sticks e n (write p q) c s 35 refl (goes_on _ (got rs ps ws p h) (stops _ at))
+      write_sticks k h = goes_on _ has (stops _ (not_found e q 35 (pos (get_or s.places q 0)) k h))
 
-      pub writes : {i b : ℕ} → cell_number 35 (e.size q) (pos (get_or ps q 0)) ≡ ok i → b ≡ e.base q → i ≡ get_or ps q 0 → {ws' : List ℕ} → ws' ≡ ListN.set ws (b + i) (get_or rs p 0)
-          → stopped 0 n (state rs (ListN.set ps q (i + 1)) ws') ≡ step e n (write p q) c s
-      unfolding perform place advance keep
-      writes {i} at base here is =
-          ends e n (write p q) c s
-          (goes_on _ (got rs ps ws p h) (goes_on _ at
-          (ap (λ k. ok (state rs (ListN.set ps q (k + 1)) (ListN.set ws (e.base q + i) (get_or rs p 0)))) (sym here) ∙ ap (λ l. ok (state rs (ListN.set ps q (i + 1)) l)) (sym (is ∙ ap (λ b. ListN.set ws (b + i) (get_or rs p 0)) base)))))
+      pub writes : {at : ℕ} {after : List ℕ} → cell_at e q 35 (pos (get_or s.places q 0)) ≡ ok at → w < 2 ^ 32 → after ≡ put_word area at w → perform e cs (write p q) before ≡ ok (state (next s) (words after))
+      unfolding perform place advance
+      writes {at} h small is =
+          let i = found e q 35 (pos (get_or s.places q 0)) at h in
+          goes_on _ has (goes_on _ i.number (ap (λ t. ok (advance q t)) (keeps i.index w i.there small is)))

@@ -1,86 +1,77 @@
--- The number of a cell: what the code's tests say of it, and what the machine makes of it.
-use Prim.Native.Nat.{ℕ, ◌≤◌, ◌<◌}
+-- Where a cell is: what the code's test says of it, and what the machine makes of it.
+use Rattle.std.specs.Prelude.{Ok, Err}
+use Prim.Native.Nat.{ℕ, ◌+◌, ◌<◌}
 use mathlib.Core.Path.{◌≡◌, refl, sym, ap, subst, ◌∙◌}
-use mathlib.Core.Bool.{Bool, true, false, cond, false≢true}
-use mathlib.Core.List.{[], ◌∷◌}
-use native.Mathlib.Omega.{arith}
+use mathlib.Core.Bool.{Bool, true, false}
 use lib.Dec.{T}
-use lib.IntN.{ℤ, pos, negsuc, nat_abs}
-use lib.Signed.{lt_z, non_neg}
-use borrow.Author.Tests.{le-ltb}
+use lib.IntN.{ℤ, pos, nat_abs}
+use lib.Signed.{non_neg}
 use Rattle.numbers.specs.Result.{ok, stop, need}
 use Rattle.numbers.specs.Words.{inside}
-use Rattle.numbers.proofs.Order.{not_negative}
-use Rattle.numbers.proofs.Signs.{back, as_it_is}
-use Rattle.numbers.proofs.Tests.{inside_index, index_inside}
-use Rattle.forms.specs.Form.{value}
-use Rattle.forms.specs.declared.Form.{Form}
-use Rattle.forms.specs.Code.{form}
-use Rattle.kernel.specs.Machine.{cell_number}
+use Rattle.numbers.proofs.Tests.{inside_index}
+use Rattle.kernel.specs.declared.refusals.Reason.{Reason}
+use Rattle.kernel.specs.Named.{reason}
+use Rattle.kernel.specs.Machine.{Layout, cell_number}
+use Rattle.run_ops.specs.States.{worked}
+use Rattle.run_ops.specs.Layout.{cell_at}
 use Rattle.run_ops.proofs.States.{goes_on, stops}
-use Rattle.run_loops.specs.declared.Counters.{Counters}
-use Rattle.run_loops.specs.View.{counters, CountersSmall}
-
--- ---- the tests
-
-pub below : (n : ℕ) (z : ℤ) → lt_z z (pos 0) ≡ true → inside n z ≡ false
-unfolding inside
-below n (pos i) h = absurd (not_negative i h)
-below n (negsuc i) h = refl
-
-pub past : (n : ℕ) (z : ℤ) → lt_z z (pos n) ≡ false → inside n z ≡ false
-unfolding inside
-past n (pos i) h = h
-past n (negsuc i) h = refl
-
-pub there : (n : ℕ) (z : ℤ) → lt_z z (pos 0) ≡ false → lt_z z (pos n) ≡ true → inside n z ≡ true
-unfolding inside
-there n (pos i) l h = h
-there n (negsuc i) l h = absurd (false≢true (sym l))
 
 pub inside_small : (n : ℕ) (z : ℤ) → inside n z ≡ true → T (non_neg z) × (nat_abs z < n)
 inside_small n z h =
     let (i, e, l) = inside_index n z h in
     subst (λ z. T (non_neg z) × (nat_abs z < n)) (sym e) (tt, l)
 
--- ---- a form's value, from the counters that the code hands on
-
-pub value_back : (f : Form) (a : Counters) → CountersSmall a → {v : ℤ} → v ≡ value (form f) (back a.c0 ∷ back a.c1 ∷ back a.c2 ∷ back a.c3 ∷ []) → v ≡ value (form f) (counters a).values
-value_back f a h e =
-    e ∙ λ i. value (form f) (as_it_is h.c0_small tt i ∷ as_it_is h.c1_small tt i ∷ as_it_is h.c2_small tt i ∷ as_it_is h.c3_small tt i ∷ [])
-
--- ---- the number, or the reason to stick
-
-module _ (reason n : ℕ) (z : ℤ) where
-  numbered : inside n z ≡ true → cell_number reason n z ≡ ok (nat_abs z)
+-- the number, or the reason to stick
+module _ (k n : ℕ) (z : ℤ) where
+  numbered : inside n z ≡ true → cell_number k n z ≡ ok (nat_abs z)
   unfolding cell_number need
-  numbered h = goes_on _ (ap (need reason) h) refl
+  numbered h = goes_on _ (ap (need k) h) refl
 
-  not_numbered : inside n z ≡ false → cell_number reason n z ≡ stop reason
+  not_numbered : inside n z ≡ false → cell_number k n z ≡ stop k
   unfolding cell_number need
-  not_numbered h = stops _ (ap (need reason) h)
+  not_numbered h = stops _ (ap (need k) h)
 
--- i as the code gives it, with the size m that it found
-module _ (reason : ℕ) {n m i : ℕ} (z : ℤ) (size : m ≡ n) (at : i ≡ cond (inside m z) (nat_abs z) m) where
-  pub number_in : i < m → cell_number reason n z ≡ ok i
-  number_in h = by (inside m z) refl
+module _ (e : Layout) (q : ℕ) (why : Reason) (z : ℤ) where
+  pub cell_there : inside (e.size q) z ≡ true → worked (Ok (e.base q + nat_abs z)) ≡ cell_at e q (reason why) z
+  unfolding worked cell_at
+  cell_there h = sym (goes_on _ (numbered (reason why) (e.size q) z h) refl)
+
+  pub cell_past : inside (e.size q) z ≡ false → worked (Err why) ≡ cell_at e q (reason why) z
+  unfolding worked cell_at
+  cell_past h = sym (stops _ (not_numbered (reason why) (e.size q) z h))
+
+-- and back
+module _ (e : Layout) (q k : ℕ) (z : ℤ) where
+  pub record Found (at : ℕ) : Type 0 where
+    pub index : ℕ
+    pub is : z ≡ pos index
+    pub below : index < e.size q
+    pub number : cell_number k (e.size q) z ≡ ok index
+    pub there : at ≡ e.base q + index
+
+  apart : {A : Type 0} {x : A} → stop k ≡ ok x → ⊥
+  apart e = cc
+
+  pub found : (at : ℕ) → cell_at e q k z ≡ ok at → Found at
+  unfolding cell_at
+  found at h = by (inside (e.size q) z) refl
     where
-      by : (t : Bool) → inside m z ≡ t → cell_number reason n z ≡ ok i
-      by true t = numbered reason n z (ap (λ n. inside n z) (sym size) ∙ t) ∙ ap ok (sym (at ∙ ap (λ t. cond t (nat_abs z) m) t))
-      by false t = let e : i ≡ m = at ∙ ap (λ t. cond t (nat_abs z) m) t in absurd (omega arith)
+      by : (t : Bool) → inside (e.size q) z ≡ t → Found at
+      by true t =
+          let (i, is, l) = inside_index (e.size q) z t in
+          let number : cell_number k (e.size q) z ≡ ok i = numbered k (e.size q) z t ∙ ap (λ z. ok (nat_abs z)) is in
+          let same : ok (e.base q + i) ≡ ok at = sym (goes_on (λ i. ok (e.base q + i)) number refl) ∙ h in
+          let there : at ≡ e.base q + i = cc in
+          record { index = i; is = is; below = l; number = number; there = there }
+      by false t = absurd (apart (sym (stops (λ i. ok (e.base q + i)) (not_numbered k (e.size q) z t)) ∙ h))
 
-  pub number_out : m ≤ i → cell_number reason n z ≡ stop reason
-  number_out h = by (inside m z) refl
+  pub not_found : (j : ℕ) → cell_at e q k z ≡ stop j → cell_number k (e.size q) z ≡ stop j
+  unfolding cell_at
+  not_found j h = by (inside (e.size q) z) refl
     where
-      by : (t : Bool) → inside m z ≡ t → cell_number reason n z ≡ stop reason
-      by true t = let e : i ≡ nat_abs z = at ∙ ap (λ t. cond t (nat_abs z) m) t in absurd (omega (arith, (inside_small m z t).1))
-      by false t = not_numbered reason n z (ap (λ n. inside n z) (sym size) ∙ t)
-
--- i is the stream's place
-module _ (reason : ℕ) {n m i place : ℕ} (size : m ≡ n) (at : i ≡ place) where
-  pub place_in : i < m → cell_number reason n (pos place) ≡ ok i
-  place_in h = numbered reason n (pos place) (index_inside n place (omega arith)) ∙ ap ok (sym at)
-
-  pub place_out : m ≤ i → cell_number reason n (pos place) ≡ stop reason
-  unfolding inside
-  place_out h = not_numbered reason n (pos place) (le-ltb place n (omega arith))
+      by : (t : Bool) → inside (e.size q) z ≡ t → cell_number k (e.size q) z ≡ stop j
+      by true t = absurd (let no : ok (e.base q + nat_abs z) ≡ stop j = sym (goes_on (λ i. ok (e.base q + i)) (numbered k (e.size q) z t) refl) ∙ h in cc)
+      by false t =
+          let no = not_numbered k (e.size q) z t in
+          let same : stop k ≡ stop j = sym (stops (λ i. ok (e.base q + i)) no) ∙ h in
+          no ∙ same

@@ -1,25 +1,27 @@
 -- The code's registers, places and output words, seen as the machine's state; and what a statement's answer comes to.
-use Rattle.std.specs.Prelude.{ℕ, ◌^◌, ◌≡◌, cond, List, map, eqb, ltb}
-use Rattle.std.proofs.Math.Option.{Option, none, some}
-use Rattle.numbers.specs.Result.{Result, ok, stop}
-use Rattle.kernel.specs.File.{Op}
-use Rattle.kernel.specs.Machine.{Layout, State, Counters, Stuck, stuck, step}
+use Rattle.std.specs.Prelude.{ℕ, List, map, Option, Some, None, Result, Ok, Err}
+use Rattle.std.proofs.Math.Option as Math
+use Rattle.numbers.specs.Result as Answer
+use Rattle.kernel.specs.declared.refusals.Reason.{Reason}
+use Rattle.kernel.specs.Named.{reason}
+use Rattle.kernel.specs.Machine as Machine
+use Rattle.kernel.specs.Machine.{Stuck, stuck}
+use Rattle.run_ops.specs.declared.State.{State}
 
--- a register: below 2³² a word, else unset
-unfoldable pub known : ℕ → Option ℕ
-known v = cond (ltb v (2 ^ 32)) (some v) none
+-- a register, unset or a word
+unfoldable pub known : Option ℕ → Math.Option ℕ
+known None = Math.none
+known (Some w) = Math.some w
 
-abbrev pub state : (registers places output : List ℕ) → State
-state rs ps ws = record { registers = map known rs; places = ps; output = ws }
+abbrev pub state : State → (output : List ℕ) → Machine.State
+state s ws = record { registers = map known s.registers; places = s.places; output = ws }
 
--- reason 0: statement n went on to s; any other reason: it stuck there
-unfoldable pub stopped : (reason n : ℕ) → State → Result Stuck State
-stopped reason n s = cond (eqb reason 0) (ok s) (stop (stuck reason n s))
+-- what it gave, or the reason to stick
+unfoldable pub worked : {A : Type 0} → Result A Reason → Answer.Result ℕ A
+worked (Ok x) = Answer.ok x
+worked (Err why) = Answer.stop (reason why)
 
--- what the code's statement o came to: its answer is 0 or the reason to stick, whatever the statement's number is
-abbrev pub Steps : Layout → Counters → Op → (answer : ℕ) → (before after : State) → Type 0
-Steps e c o answer before after = (n : ℕ) → stopped answer n after ≡ step e n o c before
-
--- what an operator gave: below 2³² a word, else the divisor was 0
-unfoldable pub worked : ℕ → Result ℕ ℕ
-worked v = cond (ltb v (2 ^ 32)) (ok v) (stop 32)
+-- statement n went on to s, or it stuck there
+unfoldable pub stopped : Result Unit Reason → (n : ℕ) → Machine.State → Answer.Result Stuck Machine.State
+stopped (Ok t) n s = Answer.ok s
+stopped (Err why) n s = Answer.stop (stuck (reason why) n s)

@@ -11,12 +11,12 @@ pub fn read_full<R: Read>(input: &mut R, space: &mut [u8]) -> io::Result<usize>
     ensures { IfOk result (λ n. n ≤ length space.new) }
 {
     let mut done = 0;
+    // A `while`: the library's `read_exact` and `read_to_end` try an interrupted read again, and neither tells how much came before the end.
     while done < space.len() {
-        let n = input.read(&mut space[done..])?;
-        if n == 0 {
-            break;
+        match input.read(&mut space[done..])? {
+            0 => break,
+            n => done += n,
         }
-        done += n;
     }
     Ok(done)
 }

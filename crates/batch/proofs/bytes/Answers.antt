@@ -1,9 +1,8 @@
 -- `batch::bytes` meets its contract.
-use mathlib.Core.Path.{refl}
 use Rattle.batch.specs.Reply.{eight}
 use Rattle.batch.proofs.bytes.Goals as goal
 
 pub returns : goal.returns
 unfolding eight
 returns c =
-    refl
+    c.to_le_bytes.ensures

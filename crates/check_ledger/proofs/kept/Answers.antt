@@ -1,16 +1,7 @@
 -- `check_ledger::kept` meets its contract.
-use mathlib.Core.Path.{sym, ◌∙◌}
-use Rattle.check_ledger.specs.View.{numbered, held}
-use Rattle.check_ledger.proofs.Tests.{kept_both, kept_not}
+use borrow.Author.Rules.{rules}
+use Rattle.check_ledger.proofs.Tests.{kept_by}
 use Rattle.check_ledger.proofs.kept.Goals as goal
 
-pub returns-then-row_true : goal.returns-then-row_true
-returns-then-row_true c =
-    let s = c.args in
-    kept_both _ (held s.h) (held s.g) (sym c.row_true.ensures ∙ c.if-row_true.true)
-
 pub returns : goal.returns
-unfolding numbered
-returns c =
-    let s = c.args in
-    kept_not _ (held s.h) (held s.g) (sym c.row_true.ensures ∙ c.if-row_true.false)
+returns c = kept_by _ c.args.first c.args.second _ c.filter.ensures (λ h b q. search rules)

@@ -1,40 +1,17 @@
 -- `check_rows::positions` meets its contract. Invariant: the first i are what the first i rows state, and all forms are small.
-use mathlib.Core.Path.{refl, ◌∙◌}
 use native.Mathlib.Omega.{arith}
+use lib.ListN.{length-set}
 use Rattle.kernel.specs.File as File
-use Rattle.check_ledger.proofs.Entries.{positions_long}
-use Rattle.check_ledger.proofs.Loops.{written_starts, written_all}
-use Rattle.check_rows.proofs.Stating.{row_written, small_form, position_stated}
+use Rattle.check_rows.proofs.Stating.{row_written, row_small, form_small, position_put}
 use Rattle.check_rows.proofs.positions.Goals as goal
-
-pub loop-i-init : goal.loop-i-init
-loop-i-init c =
-    (written_starts (omega (arith, c.requires.2, positions_long c.args.rows.now)) refl, refl, c.requires.4)
-
-pub overflow_add-from : goal.overflow_add-from
-overflow_add-from c = omega (arith, c.loop-i-test.true, c.requires.0.few, c.requires.1)
-
-pub record_in-row-requires : goal.record_in-row-requires
-record_in-row-requires c = c.requires.0
-
-pub put_position-requires : goal.put_position-requires
-put_position-requires c =
-    (omega (arith, c.loop-i-test.true, c.requires.2), c.loop-i.invariant.2.whole)
 
 pub loop-i-preserved : goal.loop-i-preserved
 loop-i-preserved c =
-    let l = c.loop-i in
-    let file = c.args.file.now in
-    let part = c.args.part in
-    let e = c.record_in-row.ensures in
-    let k = c.form_of in
-    let P = c.put_position.ensures in (
-      row_written file part c.args.from l.i e File.form k.result c.requires.1 c.loop-i-test.true k.ensures l.invariant.0 P.positions_are,
-      P.buffers_are ∙ l.invariant.1,
-      position_stated l.invariant.2 l.i P (small_form file part c.args.from l.i e c.requires.3 k.ensures),
+    let s = c.args in
+    let i = c.loop-i.i in
+    let e = c.record.ensures in
+    let f = c.form in (
+      row_written s.records s.from i e File.form f.result c.requires.0 c.loop-i-test.true (omega arith) f.ensures c.loop-i.invariant.0,
+      position_put c.loop-i.positions i f.result (form_small f.ensures (row_small s.records s.from i e c.requires.2)) c.loop-i.invariant.1,
+      simp length-set c.loop-i.invariant.2,
     )
-
-pub returns : goal.returns
-returns c =
-    let l = c.loop-i.invariant in
-    (written_all l.0 c.loop-i-test.false, l.1, l.2)

@@ -1,18 +1,14 @@
-use Prim.Native.Nat.{◌-◌}
+use Prim.Native.Nat.{ℕ, ◌^◌}
 use mathlib.Core.Path.{◌≡◌}
 use mathlib.Core.List.{map}
-use lib.ListN.{take, drop}
-use Rattle.forms.specs.Code.{form}
+use lib.ListN.{length, get_or, take, drop}
+use Rattle.forms.specs.Code.{form, Within}
 use Rattle.kernel.specs.File as File
-use Rattle.parts.specs.Parts.{records_in}
-use Rattle.check_ledger.specs.View.{positions, buffers}
+use Rattle.parts.specs.Tables.{rows}
+use Rattle.check_ledger.specs.View.{no_form}
 use Rattle.check_ledger.proofs.Loops.{Written}
-use Rattle.check_rows.specs.Changes.{Stated}
 use Rattle.check_rows.proofs.positions.Given as goal
 
 abbrev pub invariant-loop-i : goal.invariant-loop-i
 invariant-loop-i l =
-    Written form (λ i. map File.form (take i (drop l.from (records_in l.file l.part)))) l.n l.i (positions l.rows) × (buffers l.rows ≡ buffers l.initial.rows) × Stated l.rows
-
-abbrev pub decreases-loop-i : goal.decreases-loop-i
-decreases-loop-i l = l.n - l.i
+    Written form (λ i. map File.form (take i (drop l.from (rows l.records)))) l.n l.i l.positions × ((q : ℕ) → Within (2 ^ 20) (2 ^ 20) (get_or l.positions q no_form)) × (length l.positions ≡ 8)

@@ -1,10 +1,13 @@
 -- `check_rules::arrays_taken` meets its contract.
-use native.Mathlib.Omega.{arith}
-use Rattle.check_rules.proofs.ByCode.{takes_none, takes_one}
+use borrow.Author.Rules.{rules}
+use Rattle.kernel.specs.Named.{rule}
+use Rattle.check_rules.specs.View.{arrays_taken}
 use Rattle.check_rules.proofs.arrays_taken.Goals as goal
 
-pub returns-in-3 : goal.returns-in-3
-returns-in-3 c = takes_none _ c.in-3.is
+pub returns-in-Fill : goal.returns-in-Fill
+unfolding rule arrays_taken
+returns-in-Fill c = search rules
 
 pub returns-in_default : goal.returns-in_default
-returns-in_default c = takes_one _ (λ e. omega arith)
+unfolding rule arrays_taken
+returns-in_default c = search rules

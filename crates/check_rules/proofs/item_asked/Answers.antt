@@ -1,40 +1,48 @@
 -- `check_rules::item_asked` meets its contract: one test after the other.
 use mathlib.Core.Path.{◌≡◌, sym, ap, ◌∙◌}
+use Rattle.std.proofs.lemmas.Result.{err_from_is_err_and}
+use Prim.Native.Nat.{ℕ}
+use mathlib.Core.Bool.{Bool}
+use Rattle.numbers.specs.Result.{Result, stop, ◌>>=◌, need}
 use Rattle.forms.specs.Form as F
 use Rattle.forms.specs.Code.{form, loops}
 use Rattle.kernel.specs.File as File
+use Rattle.kernel.specs.declared.refusals.Misfit.{Misfit}
+use Rattle.kernel.specs.Named.{misfit}
 use Rattle.parts.specs.Records.{rec}
 use Rattle.parts.specs.Arrays.{arrays_of, array_at}
 use Rattle.parts.proofs.Arrays.{array_as}
 use Rattle.check_rules.specs.View.{next_at, room_left, next_item, answered}
-use Rattle.check_rules.proofs.Effects.{need_fails, need_holds, needs_not, needs_nothing}
+use Rattle.check_rules.proofs.Needs.{answer_stops, answer_goes}
 use Rattle.check_rules.proofs.item_asked.Goals.{Start}
 use Rattle.check_rules.proofs.item_asked.Goals as goal
 
--- the two tests are those of the kernel's array
-module _ (s : Start) (K : File.Kernel) (k : K.arrays ≡ arrays_of s.args.file.now s.args.n) where
-  array_is : File.array K s.args.a.q ≡ array_at s.args.file.now s.args.a.q
-  array_is = sym (array_as s.args.file.now s.args.n s.args.a.q s.requires.1 K k)
+-- what is asked, of an array's record
+module _ (s : Start) where
+  abbrev room : File.Rec → Bool
+  room r = F.below (loops s.args.around) (File.count_of r) (form s.args.position)
 
-  first_test : F.below (loops s.args.around) (File.count_of (File.array K s.args.a.q)) (form s.args.position)
-      ≡ F.below (loops s.args.around) (File.count_of (array_at s.args.file.now s.args.a.q)) (form s.args.position)
-  first_test = ap (λ r. F.below (loops s.args.around) (File.count_of r) (form s.args.position)) array_is
+  abbrev next : File.Rec → Bool
+  next r = F.same (loops s.args.around) (File.form (rec s.args.a)) (next_at r (form s.args.position))
 
-  second_test : F.same (loops s.args.around) (File.form (rec s.args.a)) (next_at (File.array K s.args.a.q) (form s.args.position))
-      ≡ F.same (loops s.args.around) (File.form (rec s.args.a)) (next_at (array_at s.args.file.now s.args.a.q) (form s.args.position))
-  second_test = ap (λ r. F.same (loops s.args.around) (File.form (rec s.args.a)) (next_at r (form s.args.position))) array_is
+  abbrev both : File.Rec → Result ℕ (Unit {0})
+  both r = need 11 (room r) >>= λ _. need 12 (next r)
 
-pub returns-then-not-below_count : goal.returns-then-not-below_count
-unfolding room_left next_item answered
-returns-then-not-below_count c K k =
-    sym (need_fails 11 _ _ (first_test (goal.at.returns-then-not-below_count c).Start K k ∙ sym c.below_count.ensures ∙ c.if-not-below_count.true))
+  of_kernel : (K : File.Kernel) → K.arrays ≡ arrays_of s.args.arrays.file.now s.args.arrays.count → both (array_at s.args.arrays.file.now s.args.a.q) ≡ next_item K (loops s.args.around) (rec s.args.a) (form s.args.position)
+  unfolding room_left next_item
+  of_kernel K k = ap both (array_as s.args.arrays.file.now s.args.arrays.count s.args.a.q s.requires.0 K k)
 
-pub returns-then-not-at_next : goal.returns-then-not-at_next
-unfolding room_left next_item answered
-returns-then-not-at_next c K k =
-    sym (need_holds 11 _ _ (first_test (goal.at.returns-then-not-at_next c).Start K k ∙ sym c.below_count.ensures ∙ c.if-not-below_count.false) ∙ sym (needs_not 12 _ (second_test (goal.at.returns-then-not-at_next c).Start K k ∙ sym c.at_next.ensures ∙ c.if-not-at_next.true)))
+pub returns-in_err-need : goal.returns-in_err-need
+unfolding answered misfit
+returns-in_err-need c K k =
+    let p = err_from_is_err_and c.from_residual.result c.from_residual.ensures.1 in
+    ap answered p.1 ∙ ap (λ (m : Misfit). stop (misfit m)) p.2
+    ∙ sym (answer_stops (c.need.ensures ∙ ap (need 11) c.below_count.ensures) _ c.in_err-need.was)
+    ∙ of_kernel (goal.at.returns-in_err-need c).Start K k
 
 pub returns : goal.returns
-unfolding room_left next_item answered
+unfolding misfit
 returns c K k =
-    sym (need_holds 11 _ _ (first_test (goal.at.returns c).Start K k ∙ sym c.below_count.ensures ∙ c.if-not-below_count.false) ∙ sym (needs_nothing 12 _ (second_test (goal.at.returns c).Start K k ∙ sym c.at_next.ensures ∙ c.if-not-at_next.false)))
+    c.need-2.ensures ∙ ap (need 12) c.at_next.ensures
+    ∙ sym (answer_goes (c.need.ensures ∙ ap (need 11) c.below_count.ensures) _ c.in_ok-need.was)
+    ∙ of_kernel (goal.at.returns c).Start K k

@@ -9,14 +9,14 @@ use Rattle.check_walk.specs.View.{Goes, Further}
 use Rattle.check_walk.proofs.+check_block_check_rule.Given as goal
 
 abbrev pub decreases-check_block : goal.decreases-check_block
-decreases-check_block l = (l.c.d - l.from.rule) + (l.c.d - l.from.rule) + 1
+decreases-check_block l = (l.kernel.counts.d - l.from.rule) + (l.kernel.counts.d - l.from.rule) + 1
 
 abbrev pub decreases-check_rule : goal.decreases-check_rule
-decreases-check_rule l = (l.c.d - l.at.rule) + (l.c.d - l.at.rule)
+decreases-check_rule l = (l.kernel.counts.d - l.at.rule) + (l.kernel.counts.d - l.at.rule)
 
 abbrev pub invariant-check_block-loop-at : goal.invariant-check_block-loop-at
 invariant-check_block-loop-at l =
-    Further l.file l.c l.initial.at l.at l.l × ((os : List S.Opened) → S.loops os ≡ loops l.ls → Goes l.file l.c os (standing l.initial.at l.initial.l) os (standing l.at l.l))
+    Further l.kernel l.initial.at l.at l.l × ((os : List S.Opened) → S.loops os ≡ loops l.ls → Goes l.kernel os l.initial.at l.initial.l os (standing l.at l.l))
 
 abbrev pub decreases-check_block-loop-at : goal.decreases-check_block-loop-at
-decreases-check_block-loop-at l = l.c.d - l.at.rule
+decreases-check_block-loop-at l = l.kernel.counts.d - l.at.rule

@@ -1,93 +1,52 @@
--- `check_walk::check_plain` meets its contract. Invariant: the walk has come here, and at least past the first rule unless the rule here is plain.
-use Prim.Native.Nat.{◌<◌}
-use mathlib.Core.Path.{◌≡◌, refl, sym, ap, subst, ◌∙◌}
-use mathlib.Core.Logic.{◌⊎◌, inl, inr}
-use mathlib.Core.List.{List}
-use native.Mathlib.Omega.{arith}
+-- `check_walk::check_plain` meets its contract. Invariant: the walk has come here from the first rule.
+use mathlib.Core.Path.{refl, sym, subst, ◌∙◌}
 use Rattle.forms.specs.Code.{loops}
-use Rattle.kernel.specs.Derivation as S
-use Rattle.check_take.specs.View.{Taken, standing, with_ledger, Plain, AtRule}
-use Rattle.check_walk.specs.View.{Goes, RuleWalked}
-use Rattle.check_walk.proofs.Walks.{goes_none, goes_then}
-use Rattle.check_walk.proofs.Stretches.{between_blocks, not_plain, further_none, further_then, plain_walked}
-use Rattle.check_walk.proofs.check_plain.Goals.{After-between, After-plain-r, At-loop-at}
+use Rattle.check_take.specs.View.{with_ledger, AtRule}
+use Rattle.check_take.proofs.Came.{refuses}
+use Rattle.check_walk.specs.View.{RuleWalked}
+use Rattle.check_walk.proofs.Walks.{passed_on, goes_then, goes_missing}
+use Rattle.check_walk.proofs.Stretches.{plain_walked, rule_then}
+use Rattle.check_walk.proofs.check_plain.Goals.{After-plain, After-plain-in_default}
 use Rattle.check_walk.proofs.check_plain.Goals as goal
 
--- past the first rule, where the rule here is not plain
-past_it : {A B : Type 0} → A ⊎ B → (B → ⊥) → A
-past_it (inl a) n = a
-past_it (inr b) n = absurd (n b)
+-- the first rule has been taken
+walked : (c : After-plain) → RuleWalked c.args.kernel (loops c.args.ls) c.args.from c.args.l.now (with_ledger c.plain.result c.plain.new.l)
+walked c = plain_walked c.args.kernel c.requires.0 c.args.ls c.plain.ensures
 
--- at a turn
-module _ (c : At-loop-at) where
-  abbrev from : Taken
-  from = standing c.args.from c.args.l.now
+-- and another
+walked_on : (c : After-plain-in_default) → RuleWalked c.args.kernel (loops c.args.ls) c.args.from c.args.l.now (with_ledger c.plain-in_default.result c.plain-in_default.new.l)
+walked_on c =
+    let i = c.loop-to.invariant in
+    let there : AtRule c.args.kernel.counts c.loop-to.to c.loop-to.l = record { stood = i.0.stood; there = c.loop-to-test.true } in
+    rule_then c.args.l.now i.0 i.1 (plain_walked c.args.kernel there c.args.ls c.plain-in_default.ensures)
 
-  abbrev here : Taken
-  here = standing c.loop-at.at c.loop-at.l
+pub returns-in_err-to : goal.returns-in_err-to
+returns-in_err-to c =
+    let p = passed_on c.in_err-to.was c.from_residual.ensures.1 ∙ sym c.in_err-to.was in
+    subst (λ r. RuleWalked c.args.kernel (loops c.args.ls) c.args.from c.args.l.now (with_ledger r c.plain.new.l)) (sym p) (walked (goal.at.returns-in_err-to c).After-plain)
 
-  abbrev Walked : Taken → Type 0
-  Walked r = RuleWalked c.args.file.now c.args.c (loops c.args.ls) from r
+pub loop-to-init : goal.loop-to-init
+loop-to-init c =
+    let w = subst (λ r. RuleWalked c.args.kernel (loops c.args.ls) c.args.from c.args.l.now (with_ledger r c.plain.new.l)) c.in_ok-to.was (walked (goal.at.loop-to-init c).After-plain) in
+    let v = w.1 c.in_ok-to.to refl in
+    (v.0, w.0, v.1)
 
-  -- it stops here
-  walked_here : c.args.from.rule < c.loop-at.at.rule → (r : Taken) → r ≡ here → Walked r
-  walked_here h r e = subst Walked (sym e) (c.loop-at.invariant.1, λ z. (c.loop-at.invariant.0, h))
-
--- at a rule, whose code has been read
-module _ (c : After-between) where
-  there : AtRule c.args.file.now c.args.c c.loop-at.at c.loop-at.l
-  there = record { reads = c.requires.0; stood = c.loop-at.invariant.0.stood; there = c.loop-at-test.true }
-
--- it is plain, and has been taken
-module _ (c : After-plain-r) where
-  abbrev after : Taken
-  after = with_ledger c.plain-r.result c.plain-r.new.l
-
-  walked : RuleWalked c.args.file.now c.args.c (loops c.args.ls) (standing c.loop-at.at c.loop-at.l) after
-  walked =
-      let there : AtRule c.args.file.now c.args.c c.loop-at.at c.loop-at.l = record { reads = c.requires.0; stood = c.loop-at.invariant.0.stood; there = c.loop-at-test.true } in
-      plain_walked there c.args.ls c.plain-r.ensures
-
-  goes : (os : List S.Opened) → S.loops os ≡ loops c.args.ls → Goes c.args.file.now c.args.c os (standing c.args.from c.args.l.now) os after
-  goes os k = goes_then c.args.file.now c.args.c os os os (standing c.args.from c.args.l.now) (standing c.loop-at.at c.loop-at.l) after (c.loop-at.invariant.1 os k) refl (walked.0 os k)
-
-pub loop-at-init : goal.loop-at-init
-loop-at-init c =
+pub returns-in_err-rule : goal.returns-in_err-rule
+returns-in_err-rule c =
     let a = c.args in
-    let p = c.requires in
-    (further_none p.1, (λ os k. goes_none a.file.now a.c os (standing a.from a.l.now) refl), inr p.4)
-
-pub code_next-code-requires : goal.code_next-code-requires
-code_next-code-requires c = (c.requires.0, c.loop-at-test.true)
-
-pub returns-then-between : goal.returns-then-between
-returns-then-between c =
-    let n = c.code_next-code in
-    let between = sym c.between.ensures ∙ c.if-between.true in
-    walked_here (goal.at.returns-then-between c).At-loop-at (past_it c.loop-at.invariant.2 (λ p. not_plain n.result between (subst Plain (sym n.ensures) p))) _ (ap (λ r. with_ledger r c.loop-at.l) c.stays.ensures)
-
-pub plain-r-requires : goal.plain-r-requires
-plain-r-requires c =
-    let n = c.code_next-code in
-    (there (goal.at.plain-r-requires c).After-between, c.requires.3, n.ensures, between_blocks n.result (sym c.between.ensures ∙ c.if-between.false))
-
-pub returns-then-r-ne0 : goal.returns-then-r-ne0
-returns-then-r-ne0 c = (goes (goal.at.returns-then-r-ne0 c).After-plain-r, λ z. absurd (c.if-r-ne0.true z))
-
-pub loop-at-smaller : goal.loop-at-smaller
-loop-at-smaller c =
-    omega (arith, (there (goal.at.loop-at-smaller c).After-between).there, ((walked (goal.at.loop-at-smaller c).After-plain-r).1 c.if-r-ne0.false).1)
-
-pub loop-at-preserved : goal.loop-at-preserved
-loop-at-preserved c =
-    let z = c.if-r-ne0.false in
-    let r = after (goal.at.loop-at-preserved c).After-plain-r in
-    let f = (walked (goal.at.loop-at-preserved c).After-plain-r).1 z in (
-      further_then c.loop-at.invariant.0 f.0,
-      (λ os k. subst (λ n. Goes c.args.file.now c.args.c os (standing c.args.from c.args.l.now) os (record { number = n; at = r.at; ledger = r.ledger })) z (goes (goal.at.loop-at-preserved c).After-plain-r os k)),
-      inl (omega (arith, c.loop-at.invariant.0.further_on, f.1)),
+    let p = passed_on c.in_err-rule.was c.from_residual-in_err-rule.ensures.1 in
+    let missing = sym c.rule_next.ensures ∙ c.in_err-rule.was in (
+      (λ os q. goes_then a.kernel os os os a.from a.l.now _ _ (c.loop-to.invariant.1 os q) refl (goes_missing a.kernel os c.loop-to.to c.loop-to.l _ c.loop-to-test.true missing p)),
+      λ to e. refuses p e,
     )
 
-pub returns : goal.returns
-returns c =
-    walked_here (goal.at.returns c).At-loop-at (omega (arith, c.requires.2, c.loop-at-test.false)) _ (ap (λ r. with_ledger r c.loop-at.l) c.stays-2.ensures)
+pub returns-in_err-to-in_default : goal.returns-in_err-to-in_default
+returns-in_err-to-in_default c =
+    let p = passed_on c.in_err-to-in_default.was c.from_residual-in_err-to-in_default.ensures.1 ∙ sym c.in_err-to-in_default.was in
+    subst (λ r. RuleWalked c.args.kernel (loops c.args.ls) c.args.from c.args.l.now (with_ledger r c.plain-in_default.new.l)) (sym p) (walked_on (goal.at.returns-in_err-to-in_default c).After-plain-in_default)
+
+pub loop-to-preserved : goal.loop-to-preserved
+loop-to-preserved c =
+    let w = subst (λ r. RuleWalked c.args.kernel (loops c.args.ls) c.args.from c.args.l.now (with_ledger r c.plain-in_default.new.l)) c.in_ok-to-in_default.was (walked_on (goal.at.loop-to-preserved c).After-plain-in_default) in
+    let v = w.1 c.in_ok-to-in_default.to refl in
+    (v.0, w.0, v.1)

@@ -4,9 +4,6 @@ use lib.IntN.{◌+ℤ◌}
 use Rattle.numbers.proofs.Signs.{back, small_add, small_mul, sum_back, product_back, back_product, fits, as_it_is}
 use Rattle.forms.proofs.plus_times.Goals as goal
 
-pub overflow_mul-result : goal.overflow_mul-result
-overflow_mul-result c = fits (product_back c.requires.1.0 c.requires.1.1) tt
-
 pub overflow_add-result : goal.overflow_add-result
 overflow_add-result c = fits (sum_back c.requires.0 (product_back c.requires.1.0 c.requires.1.1)) tt
 

@@ -1,85 +1,69 @@
 -- `memory::carry_all` meets its contract. The invariant: carrying the arrays from here on makes what carrying all makes of the first area.
-use Prim.Native.Nat.{ℕ, ◌+◌, ◌≤◌}
-use mathlib.Core.Path.{refl, ◌∙◌}
+use Prim.Native.Nat.{◌+◌}
+use mathlib.Core.Path.{◌∙◌}
 use native.Mathlib.Omega.{arith}
 use lib.ListN.{drop}
 use Rattle.numbers.specs.Words.{words}
-use Rattle.kernel.specs.File.{Rec, only}
-use Rattle.parts.proofs.Records.{record_next}
-use Rattle.parts.specs.Arrays.{array_at, arrays_of, HasArray, measure}
-use Rattle.parts.specs.declared.Measure.{Measure}
-use Rattle.parts.specs.declared.Measure.TheVariants.{Cells, Items}
-use Rattle.parts.proofs.Arrays.{array_there, array_fits}
+use Rattle.numbers.proofs.Signs.{back, as_returned}
+use Rattle.kernel.specs.Guarantees.{ArrayFits}
+use Rattle.kernel.specs.Named.{side}
+use Rattle.kernel.specs.Memory.{cells}
+use Rattle.parts.specs.Arrays.{array_at}
 use Rattle.parts.proofs.Arrays as Arrays
-use Rattle.memory.proofs.Rows.{at_most, only_few}
-use Rattle.memory.proofs.Carried.{array_next, arrays_over}
-use Rattle.memory.proofs.carry_all.Goals.{In-loop-j}
+use Rattle.parts.proofs.Records.{record_next}
+use Rattle.memory.specs.Sizes.{declared}
+use Rattle.memory.specs.Items.{carried}
+use Rattle.memory.proofs.Rows.{found}
+use Rattle.memory.proofs.Carried.{in_order, order_next, order_other, arrays_over}
+use Rattle.memory.proofs.carry_all.Goals.{In-loop-q, then-eq, else-eq}
 use Rattle.memory.proofs.carry_all.Goals as goal
 
-pub loop-j-init : goal.loop-j-init
-loop-j-init c = (omega arith, omega arith, omega arith, refl, refl)
+-- the array of a turn, as reading has found it
+array_fits : (c : In-loop-q) → ArrayFits (array_at c.args.arrays.file.now c.loop-q.q)
+array_fits c =
+    let t = c.args.arrays in
+    Arrays.array_fits t.file.now t.count c.loop-q.q c.loop-q-test.true (Arrays.arrays t)
 
--- in a turn: the array whose items are carried
-module _ (c : In-loop-j) where
-  abbrev j : ℕ
-  j = c.loop-j.j
-
-  abbrev a : Rec
-  a = array_at c.args.file.now j
-
-  there : HasArray c.args.file.now j
-  there = array_there c.args.file.now c.args.n j c.loop-j-test.true c.requires
-
-  -- it adds at most 4096 items, and at most 4096 cells
-  few : (m : Measure) → only c.args.side (measure m) a ≤ 4096
-  few m = only_few c.args.file.now c.args.n j c.loop-j-test.true c.requires m c.args.side
-
-  -- and there are at most 8 of them
-  before_it : (c.loop-j.items ≤ 28672) × (c.loop-j.cells ≤ 28672)
-  before_it = (omega (arith, c.loop-j.invariant.1, c.requires.few, c.loop-j-test.true), omega (arith, c.loop-j.invariant.2, c.requires.few, c.loop-j-test.true))
-
-pub only-count-requires : goal.only-count-requires
-only-count-requires c = there c
-
-pub carry_array-requires : goal.carry_array-requires
-unfolding measure
-carry_array-requires c =
+pub carry-requires : goal.carry-requires
+carry-requires c =
+    let t = c.args.arrays in
+    let its = array_fits (goal.at.carry-requires c).In-loop-q in
     record {
-      there = there (goal.at.carry_array-requires c).In-loop-j;
-      fits = array_fits c.args.file.now c.args.n (j (goal.at.carry_array-requires c).In-loop-j) c.loop-j-test.true c.requires;
-      enough = omega (arith, c.only-count.ensures, at_most c.args.side (measure Items) (a (goal.at.carry_array-requires c).In-loop-j));
-      few_items = omega (arith, before_it (goal.at.carry_array-requires c).In-loop-j);
-      few_cells = omega (arith, before_it (goal.at.carry_array-requires c).In-loop-j);
+      ordered = λ i h. in_order (array_at t.file.now c.loop-q.q) _ _ (as_returned {z = c.first.result} c.first.type_inv ∙ c.first.ensures) (as_returned {z = c.step.result} c.step.type_inv ∙ c.step.ensures) its i (omega (arith, h, c.count_of.ensures));
+      few_items = omega (arith, c.loop-q.invariant.0, c.loop-q-test.true, t.few);
+      few_cells = omega (arith, c.loop-q.invariant.1, c.loop-q-test.true, t.few);
     }
 
-pub overflow_add-items : goal.overflow_add-items
-overflow_add-items c = omega (arith, c.only-count.ensures, few (goal.at.overflow_add-items c).In-loop-j Items, before_it (goal.at.overflow_add-items c).In-loop-j)
-
-pub only-requires : goal.only-requires
-only-requires c = there (goal.at.only-requires c).In-loop-j
-
-pub overflow_add-cells : goal.overflow_add-cells
-overflow_add-cells c = omega (arith, c.only.ensures, few (goal.at.overflow_add-cells c).In-loop-j Cells, before_it (goal.at.overflow_add-cells c).In-loop-j)
-
-pub loop-j-preserved : goal.loop-j-preserved
-loop-j-preserved c =
-    let v = c.loop-j in
-    let g = c.args in
-    let count = c.only-count in
-    let carry = c.carry_array in
-    let arrays = arrays_of g.file.now g.n in (
-      omega (arith, c.loop-j-test.true),
-      omega (arith, count.ensures, few (goal.at.loop-j-preserved c).In-loop-j Items, v.invariant.1),
-      omega (arith, c.only.ensures, few (goal.at.loop-j-preserved c).In-loop-j Cells, v.invariant.2),
-      carry.auto.to ∙ v.invariant.3,
-      array_next g.side g.from.now v.items v.cells count.result c.only.result (a (goal.at.loop-j-preserved c).In-loop-j) (drop v.j arrays) (drop (v.j + 1) arrays) v.to carry.new.to count.ensures c.only.ensures carry.ensures (record_next (words g.file.now) 3 g.n v.j c.loop-j-test.true) ∙ v.invariant.4,
-    )
-
-pub shape_of-to : goal.shape_of-to
-shape_of-to c = c.loop-j.invariant.3
+pub loop-q-preserved : goal.loop-q-preserved
+loop-q-preserved c =
+    let t = c.args.arrays in
+    let v = c.loop-q in
+    let its = array_fits (goal.at.loop-q-preserved c).In-loop-q in
+    let a = array_at t.file.now v.q in
+    let on_it = found t v.q c.loop-q-test.true c.args.side c.eq.ensures c.side.ensures in
+    let next = record_next (words t.file.now) 3 t.count v.q c.loop-q-test.true in
+    elim c.if-eq.branch [
+      | then-eq w ↦ (
+        omega (arith, w.items-is, w.count_of.ensures, its.counted, its.short, v.invariant.0),
+        omega (arith, w.cells-is, w.length.ensures, its.short, v.invariant.1),
+        (λ k. carried (side c.args.side) (w.items-is k) (cells (side c.args.side) (w.cells-is k) (drop (v.q + 1) (declared t))) c.args.from.now (w.to-is k))
+            ∙ order_next (side c.args.side) c.args.from.now a (drop v.q (declared t)) (drop (v.q + 1) (declared t)) next (on_it ∙ w.if-eq.true)
+            (record { first = back w.first.result; step = back w.step.result; count = w.count_of.result; items = v.items; cells = v.cells })
+            (as_returned {z = w.first.result} w.first.type_inv ∙ w.first.ensures) (as_returned {z = w.step.result} w.step.type_inv ∙ w.step.ensures)
+            w.count_of.ensures w.length.result w.length.ensures v.to w.carry.new.to w.carry.ensures
+            ∙ v.invariant.2,
+      )
+      | else-eq w ↦ (
+        omega (arith, w.items-is, v.invariant.0),
+        omega (arith, w.cells-is, v.invariant.1),
+        (λ k. carried (side c.args.side) (w.items-is k) (cells (side c.args.side) (w.cells-is k) (drop (v.q + 1) (declared t))) c.args.from.now (w.to-is k))
+            ∙ order_other (side c.args.side) c.args.from.now a (drop v.q (declared t)) (drop (v.q + 1) (declared t)) next (on_it ∙ w.if-eq.false) v.items v.cells v.to
+            ∙ v.invariant.2,
+      )
+    ]
 
 pub returns : goal.returns
 returns c =
-    let g = c.args in
-    let v = c.loop-j in
-    arrays_over g.side g.from.now v.items v.cells (drop v.j (arrays_of g.file.now g.n)) v.to (Arrays.arrays_over g.file.now g.n v.j c.loop-j-test.false) ∙ v.invariant.4
+    let v = c.loop-q in
+    let t = c.args.arrays in
+    arrays_over (side c.args.side) c.args.from.now v.items v.cells (drop v.q (declared t)) v.to (Arrays.arrays_over t.file.now t.count v.q (omega arith)) ∙ v.invariant.2

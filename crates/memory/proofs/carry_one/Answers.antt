@@ -1,20 +1,13 @@
--- `memory::carry_one` meets its contract.
-use mathlib.Core.Path.{ap, ◌∙◌}
-use borrow.Author.Tests.{eq-eqb, ne_eqb}
-use Rattle.numbers.specs.Areas.{put_word}
+-- `memory::carry_one` meets its contract, by the side.
+use borrow.Author.Rules.{rules}
+use Rattle.kernel.specs.Named.{side}
 use Rattle.memory.specs.Items.{carried_one}
 use Rattle.memory.proofs.carry_one.Goals as goal
 
-pub returns-then-side-eq-INPUT : goal.returns-then-side-eq-INPUT
-unfolding carried_one
-returns-then-side-eq-INPUT c =
-    let a = c.args in
-    rw (eq-eqb a.side 1 c.if-side-eq-INPUT.true)
-    (c.put_word.ensures ∙ ap (put_word a.to.now a.item) c.word.ensures)
+pub returns-in-Input : goal.returns-in-Input
+unfolding carried_one side
+returns-in-Input c = search rules
 
-pub returns : goal.returns
-unfolding carried_one
-returns c =
-    let a = c.args in
-    rw (ne_eqb a.side 1 c.if-side-eq-INPUT.false)
-    (c.put_word-2.ensures ∙ ap (put_word a.to.now a.cell) c.word-2.ensures)
+pub returns-in-Output : goal.returns-in-Output
+unfolding carried_one side
+returns-in-Output c = search rules

@@ -1,37 +1,28 @@
--- `memory::total` meets its contract. The invariant: what is added so far and the sum of the arrays from here on are the whole.
-use Prim.Native.Nat.{◌≤◌}
-use native.Mathlib.Nat.{zero-add}
+-- `memory::total` meets its contract: the sizes of a side's arrays, added up.
+use Prim.Native.Nat.{◌*◌, ◌≤◌}
+use mathlib.Core.Path.{◌≡◌, ◌∙◌}
 use native.Mathlib.Omega.{arith}
 use borrow.Author.Rules.{rules}
-use Rattle.kernel.specs.File as File
-use Rattle.parts.specs.Arrays.{measure}
-use Rattle.parts.proofs.Arrays.{array_there}
-use Rattle.memory.proofs.Rows.{only_few, sum_next, sum_over}
-use Rattle.memory.proofs.total.Goals.{After-only-t}
+use Rattle.kernel.specs.Named.{side}
+use Rattle.parts.specs.Arrays.{array_at, arrays_of, measure}
+use Rattle.parts.proofs.Arrays.{arrays, fewer}
+use Rattle.memory.specs.Sizes.{total}
+use Rattle.memory.proofs.Rows.{counted_total, total_few}
+use Rattle.memory.proofs.total.Goals.{After-summed}
 use Rattle.memory.proofs.total.Goals as goal
 
-pub loop-j-init : goal.loop-j-init
-loop-j-init c = (omega arith, omega arith, zero-add _)
+summed_is : (c : After-summed) → c.summed.result ≡ total (side c.args.side) c.args.m (arrays_of c.args.arrays.file.now c.args.n)
+summed_is c =
+    let file = c.args.arrays.file.now in
+    c.summed.ensures (λ j. measure c.args.m (array_at file j)) (λ j r h e. search rules) ∙ counted_total (side c.args.side) file c.args.n c.args.m
 
-pub only-t-requires : goal.only-t-requires
-only-t-requires c =
-    array_there c.args.file.now c.args.n c.loop-j.j c.loop-j-test.true c.requires
+few : (c : After-summed) → c.summed.result ≤ 4096 * c.args.n
+few c =
+    let t = c.args.arrays in
+    omega (arith, summed_is c, total_few (side c.args.side) t.file.now c.args.n (fewer c.args.n c.requires (arrays t)) c.args.m)
 
--- what an array adds
-more : (c : After-only-t) → c.only-t.result ≤ 4096
-more c =
-    let few = only_few c.args.file.now c.args.n c.loop-j.j c.loop-j-test.true c.requires c.args.m c.args.side in
-    omega (arith, c.only-t.ensures, few)
-
-pub overflow_add-t : goal.overflow_add-t
-overflow_add-t c = omega (arith, more c, c.loop-j.invariant.1, c.requires.few, c.loop-j-test.true)
-
-pub loop-j-preserved : goal.loop-j-preserved
-loop-j-preserved c =
-    let next = sum_next c.args.file.now c.args.n c.loop-j.j c.loop-j-test.true (File.only c.args.side (measure c.args.m)) in
-    (search rules, omega (arith, more c, c.loop-j.invariant.1), omega (arith, c.only-t.ensures, next, c.loop-j.invariant.2))
+pub overflow_cast-result : goal.overflow_cast-result
+overflow_cast-result c = record { fits = omega (arith, few c, c.requires, c.args.arrays.few) }
 
 pub returns : goal.returns
-returns c =
-    let over = sum_over c.args.file.now c.args.n c.loop-j.j c.loop-j-test.false (File.only c.args.side (measure c.args.m)) in
-    (omega (arith, over, c.loop-j.invariant.2), omega (arith, c.loop-j.invariant.0, c.loop-j.invariant.1))
+returns c = (summed_is c, few c)

@@ -1,13 +1,13 @@
 -- `numbers::between` meets its contract.
-use Rattle.std.proofs.Common.{le-leb}
-use borrow.Author.Tests.{lt-leb}
+use Rattle.std.proofs.Common.{arith}
+use Rattle.std.proofs.lemmas.Bool.Decides.{nat_tests}
 use Rattle.numbers.specs.Words.{between}
 use Rattle.numbers.proofs.between.Goals as goal
 
-pub returns-then-w-low : goal.returns-then-w-low
+pub returns-then-low-w : goal.returns-then-low-w
 unfolding between
-returns-then-w-low c = simp (lt-leb _ _ c.if-w-low.true)
+returns-then-low-w c = grind (arith, nat_tests)
 
-pub returns : goal.returns
+pub returns-else-low-w : goal.returns-else-low-w
 unfolding between
-returns c = simp (le-leb _ _ c.if-w-low.false)
+returns-else-low-w c = grind (arith, nat_tests)

@@ -1,10 +1,9 @@
 -- `planner::packed` meets its contract: each part has 16 bits.
-use native.Mathlib.Omega.{arith}
-use Rattle.numbers.specs.Areas.{none_there, below_too}
-use Rattle.planner.specs.Words.{packed}
+use Rattle.std.proofs.Common.{◌≡◌, length, rules}
+use Rattle.planner.proofs.Parts.{four}
 use Rattle.planner.proofs.packed.Goals as goal
 
 pub returns : goal.returns
-unfolding packed
 returns c =
-    (omega arith, below_too {x = c.args.a} (omega arith) (below_too {x = c.args.b} (omega arith) (below_too {x = c.args.c} (omega arith) (below_too {x = c.args.d} (omega arith) none_there))))
+    let long : length c.args.parts ≡ 4 = search rules in
+    rw (c.from.ensures, c.from-2.ensures, c.from-3.ensures, c.from-4.ensures) (four c.args.parts long (search rules))

@@ -1,47 +1,53 @@
--- `read_blocks::after` meets its contract: an arm for each code that opens, turns or closes a block or has a form.
-use mathlib.Core.Path.{refl, sym, ◌∙◌}
+-- `read_blocks::after` meets its contract: an arm for each statement that opens, turns or closes a block, and one for the others.
+use mathlib.Core.Path.{◌≡◌, ap, ◌∙◌}
 use native.Mathlib.Omega.{arith}
-use Rattle.kernel.specs.File.{sayings}
-use Rattle.kernel.specs.Reading.{open_loops, all_passes, after, after_op}
+use Rattle.forms.specs.Code.{loop}
+use Rattle.kernel.specs.File as File
+use Rattle.kernel.specs.Reading.{all_passes, after}
 use Rattle.parts.specs.Records.{rec}
-use Rattle.read_blocks.specs.View.{block, opens}
-use Rattle.read_blocks.proofs.Statements.{nested_fine, by_code, by_no_code}
+use Rattle.parts.specs.Statements.{statement, stated}
+use Rattle.read_blocks.specs.Blocks.{block}
+use Rattle.read_blocks.specs.View.{opens, nested}
+use Rattle.read_blocks.proofs.Statements.{code_of_for, loop_of_for}
+use Rattle.read_blocks.proofs.after.Goals.{In-Ok-For}
 use Rattle.read_blocks.proofs.after.Goals as goal
 
+-- the record is the for that was found
+says_for : (c : In-Ok-For) → File.for (loop c.in-Ok-For.l) ≡ File.statement (rec c.args.r)
+unfolding statement stated
+says_for c = rw c.in-Ok-For.field-0-is at c.in-Ok-For.ensures
+
 pub for_opened-requires : goal.for_opened-requires
-for_opened-requires c = let p = c.requires.2 c.in-8.is in (c.requires.0, p.0, p.1)
+for_opened-requires c =
+    let e = says_for (goal.at.for_opened-requires c).In-Ok-For in
+    let p = c.requires (code_of_for (rec c.args.r) e) in
+    let l = ap (λ l. l.passes) (loop_of_for (rec c.args.r) e) in
+    (omega (arith, p.0, l), omega (arith, p.1, l))
 
 pub opened-requires : goal.opened-requires
-unfolding block open_loops all_passes
-opened-requires c = (c.requires.0, refl, refl, omega arith, omega arith)
+unfolding block all_passes
+opened-requires c = (omega arith, omega arith)
 
-pub returns-in-1 : goal.returns-in-1
-unfolding sayings after after_op
-returns-in-1 c = (c.named.ensures.0 ∙ sym (by_code (rec c.args.r) (opens c.args.n) 1 c.in-1.is), c.named.ensures.1)
+pub returns-in-Ok-Does : goal.returns-in-Ok-Does
+unfolding statement stated after
+returns-in-Ok-Does c = c.after_op.ensures ∙ ap (λ s. after s (opens c.args.n)) (rw c.in-Ok-Does.field-0-is at c.in-Ok-Does.ensures)
 
-pub returns-in-4 : goal.returns-in-4
-unfolding sayings after after_op
-returns-in-4 c = (c.named-in-4.ensures.0 ∙ sym (by_code (rec c.args.r) (opens c.args.n) 4 c.in-4.is), c.named-in-4.ensures.1)
+pub returns-in-Ok-For : goal.returns-in-Ok-For
+unfolding statement stated after
+returns-in-Ok-For c = c.for_opened.ensures ∙ ap (λ s. after s (opens c.args.n)) (rw c.in-Ok-For.field-0-is at c.in-Ok-For.ensures)
 
-pub returns-in-5 : goal.returns-in-5
-unfolding sayings after after_op
-returns-in-5 c = (c.named-in-5.ensures.0 ∙ sym (by_code (rec c.args.r) (opens c.args.n) 5 c.in-5.is), c.named-in-5.ensures.1)
+pub returns-in-Ok-If : goal.returns-in-Ok-If
+unfolding statement stated after block
+returns-in-Ok-If c = c.opened.ensures ∙ ap (λ s. after s (opens c.args.n)) (rw c.in-Ok-If.field-0-is at c.in-Ok-If.ensures)
 
-pub returns-in-8 : goal.returns-in-8
-unfolding sayings after after_op
-returns-in-8 c = (c.for_opened.ensures.0 ∙ sym (by_code (rec c.args.r) (opens c.args.n) 8 c.in-8.is), c.for_opened.ensures.1)
+pub returns-in-Ok-Else : goal.returns-in-Ok-Else
+unfolding statement stated after
+returns-in-Ok-Else c = c.at_else.ensures ∙ ap (λ s. after s (opens c.args.n)) (rw c.in-Ok-Else.field-0-is at c.in-Ok-Else.ensures)
 
-pub returns-in-9 : goal.returns-in-9
-unfolding sayings after block
-returns-in-9 c = (c.opened.ensures.0 ∙ sym (by_code (rec c.args.r) (opens c.args.n) 9 c.in-9.is), c.opened.ensures.1)
+pub returns-in-Ok-End : goal.returns-in-Ok-End
+unfolding statement stated after
+returns-in-Ok-End c = c.at_end.ensures ∙ ap (λ s. after s (opens c.args.n)) (rw c.in-Ok-End.field-0-is at c.in-Ok-End.ensures)
 
-pub returns-in-10 : goal.returns-in-10
-unfolding sayings after after_op
-returns-in-10 c = (c.at_else.ensures.0 ∙ sym (by_code (rec c.args.r) (opens c.args.n) 10 c.in-10.is), c.at_else.ensures.1)
-
-pub returns-in-11 : goal.returns-in-11
-unfolding sayings after after_op
-returns-in-11 c = (c.at_end.ensures.0 ∙ sym (by_code (rec c.args.r) (opens c.args.n) 11 c.in-11.is), c.at_end.ensures.1)
-
-pub returns-in_default : goal.returns-in_default
-returns-in_default c = (nested_fine c.args.n c.requires.1 ∙ sym (by_no_code (rec c.args.r) (opens c.args.n) (λ e. omega arith) (λ e. omega arith) (λ e. omega arith) (λ e. omega arith) (λ e. omega arith) (λ e. omega arith) (λ e. omega arith)), c.requires.0)
+pub returns-in-Err : goal.returns-in-Err
+unfolding stated nested after
+returns-in-Err c = ap (λ s. after s (opens c.args.n)) c.in-Err.ensures

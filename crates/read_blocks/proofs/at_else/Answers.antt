@@ -1,16 +1,33 @@
 -- `read_blocks::at_else` meets its contract.
-use mathlib.Core.Path.{refl}
+use mathlib.Core.Path.{sym}
 use native.Mathlib.Nat as NatL
-use Rattle.read_blocks.specs.View.{opens}
-use Rattle.read_blocks.proofs.Opens.{is_refused, else_none, else_refused, at_its_else}
+use Rattle.std.proofs.Common.{rules}
+use Rattle.kernel.specs.Named.{misread}
+use Rattle.read_blocks.specs.View.{opens, nested}
+use Rattle.read_blocks.proofs.Opens.{else_none, else_refused, turned, turned_loops, turned_passes}
 use Rattle.read_blocks.proofs.at_else.Goals as goal
 
-pub returns-then-depth-eq0 : goal.returns-then-depth-eq0
-unfolding opens
-returns-then-depth-eq0 c = is_refused c.refused.result c.args.n 4 refl c.refused.ensures (else_none c.args.n.blocks c.args.n.depth c.if-depth-eq0.true) c.requires
+pub returns-then-n-eq0 : goal.returns-then-n-eq0
+unfolding nested misread
+returns-then-n-eq0 c = sym (else_none c.args.n c.if-n-eq0.true)
 
-pub returns-then-blocks-top-ne0 : goal.returns-then-blocks-top-ne0
-returns-then-blocks-top-ne0 c = is_refused c.refused-then-blocks-top-ne0.result c.args.n 4 refl c.refused-then-blocks-top-ne0.ensures (else_refused c.args.n c.requires (NatL.pos_of_ne-zero c.if-depth-eq0.false) c.if-blocks-top-ne0.true) c.requires
+pub returns-in_default : goal.returns-in_default
+unfolding nested misread
+returns-in_default c = sym (else_refused c.args.n (NatL.pos_of_ne-zero c.if-n-eq0.false) c.in_default.not-If)
+
+pub invariant_of-result : goal.invariant_of-result
+invariant_of-result c =
+    let n = c.args.n in
+    let h = NatL.pos_of_ne-zero c.if-n-eq0.false in record {
+      shallow = n.shallow;
+      loops_are = turned_loops n h (search rules) c.in-If.is;
+      few_loops = n.few_loops;
+      product_is = turned_passes n h (search rules) c.in-If.is;
+      some_passes = n.some_passes;
+      few_passes = n.few_passes;
+    }
 
 pub returns : goal.returns
-returns c = at_its_else c.args.n c.requires (NatL.pos_of_ne-zero c.if-depth-eq0.false) c.if-blocks-top-ne0.false
+unfolding nested opens
+returns c =
+    turned c.args.n (NatL.pos_of_ne-zero c.if-n-eq0.false) (search rules) c.in-If.is

@@ -1,14 +1,15 @@
 -- `read_blocks::named` meets its contract.
-use mathlib.Core.Path.{refl, sym, ap, ◌∙◌}
-use Rattle.forms.specs.Form as F
-use Rattle.kernel.specs.File as File
-use Rattle.parts.specs.Records.{rec}
-use Rattle.read_blocks.proofs.Opens.{is_refused}
-use Rattle.read_blocks.proofs.Statements.{nested_fine, names_fine, names_refused}
+use mathlib.Core.Path.{sym}
+use Rattle.forms.specs.Code.{form}
+use Rattle.kernel.specs.Named.{misread}
+use Rattle.read_blocks.specs.View.{nested}
+use Rattle.read_blocks.proofs.Statements.{names_fine, names_refused}
 use Rattle.read_blocks.proofs.named.Goals as goal
 
 pub returns-then-around : goal.returns-then-around
-returns-then-around c = (nested_fine c.args.n c.requires.1 ∙ sym (names_fine c.args.n c.requires.0 (File.form (rec c.args.r)) (ap (F.around c.args.n.loops) (sym c.form_of-f.ensures) ∙ sym c.around.ensures ∙ c.if-around.true)), c.requires.0)
+unfolding nested
+returns-then-around c = sym (names_fine c.args.n (form c.args.f) (sym c.if-around.ensures))
 
-pub returns : goal.returns
-returns c = is_refused c.refused.result c.args.n 5 refl c.refused.ensures (names_refused c.args.n c.requires.0 (File.form (rec c.args.r)) (ap (F.around c.args.n.loops) (sym c.form_of-f.ensures) ∙ sym c.around.ensures ∙ c.if-around.false)) c.requires.0
+pub returns-else-around : goal.returns-else-around
+unfolding nested misread
+returns-else-around c = sym (names_refused c.args.n (form c.args.f) (sym c.if-around.ensures))

@@ -1,26 +1,47 @@
 -- `read_blocks::opened` meets its contract.
-use mathlib.Core.Path.{refl}
+use Prim.Native.Nat.{◌≤◌}
+use mathlib.Core.Path.{sym}
 use native.Mathlib.Omega.{arith}
 use native.Mathlib.Nat as NatL
 use lib.Dec.{lit<}
-use Rattle.read_blocks.proofs.Statements.{one_loop}
-use Rattle.read_blocks.proofs.Opens.{is_refused, too_deep, too_many, too_long, one_more}
+use Rattle.std.proofs.Common.{rules}
+use Rattle.kernel.specs.Named.{misread}
+use Rattle.read_blocks.specs.View.{opens, nested}
+use Rattle.read_blocks.proofs.Opens.{one_loop, too_deep, too_many, too_long, grown_loops, grown_passes, one_more}
+use Rattle.read_blocks.proofs.opened.Goals.{then-depth-ge8-via-then-depth-ge8, then-depth-ge8-via-else-depth-ge8+then-loops-gt4, then-depth-ge8-via-else-depth-ge8+else-loops-gt4+then-product-gt65536}
 use Rattle.read_blocks.proofs.opened.Goals as goal
 
+pub overflow_add-loops : goal.overflow_add-loops
+overflow_add-loops c = record { fits = omega (arith, c.args.n.few_loops, c.loops.ensures, one_loop c.args.b) }
+
+pub overflow_mul-product : goal.overflow_mul-product
+overflow_mul-product c =
+    let few : c.passes.result ≤ 131072 = omega (arith, c.passes.ensures, c.requires.1) in
+    record { fits = NatL.lt_of_le_of_lt (NatL.mul-le-mul c.args.n.few_passes few) (lit< tt) }
+
 pub returns-then-depth-ge8 : goal.returns-then-depth-ge8
-returns-then-depth-ge8 c = is_refused c.refused.result c.args.n 5 refl c.refused.ensures (too_deep c.args.n c.requires.0 c.args.b c.args.loops c.args.passes c.requires.1 c.requires.2 c.if-depth-ge8.true) c.requires.0
+unfolding nested misread
+returns-then-depth-ge8 c =
+    let n = c.args.n in
+    sym (elim c.then-depth-ge8.branch [
+      | then-depth-ge8-via-then-depth-ge8 w ↦ too_deep n c.args.b c.loops.result c.passes.result c.loops.ensures c.passes.ensures w.if-depth-ge8.true
+      | then-depth-ge8-via-else-depth-ge8+then-loops-gt4 w ↦ too_many n c.args.b c.loops.result c.passes.result c.loops.ensures c.passes.ensures w.if-depth-ge8.false w.if-loops-gt4.true
+      | then-depth-ge8-via-else-depth-ge8+else-loops-gt4+then-product-gt65536 w ↦ too_long n c.args.b c.loops.result c.passes.result c.loops.ensures c.passes.ensures w.if-depth-ge8.false w.if-loops-gt4.false w.if-product-gt65536.true
+    ])
 
-pub overflow_add-l : goal.overflow_add-l
-overflow_add-l c = record { fits = omega (arith, c.requires.0.few_loops, c.requires.1, one_loop c.args.b) }
-
-pub returns-then-l-gt4 : goal.returns-then-l-gt4
-returns-then-l-gt4 c = is_refused c.refused-then-l-gt4.result c.args.n 5 refl c.refused-then-l-gt4.ensures (too_many c.args.n c.requires.0 c.args.b c.args.loops c.args.passes c.requires.1 c.requires.2 c.if-depth-ge8.false c.if-l-gt4.true) c.requires.0
-
-pub overflow_mul-p : goal.overflow_mul-p
-overflow_mul-p c = record { fits = NatL.lt_of_le_of_lt (NatL.mul-le-mul c.requires.0.few_passes c.requires.4) (lit< tt) }
-
-pub returns-then-p-gt65536 : goal.returns-then-p-gt65536
-returns-then-p-gt65536 c = is_refused c.refused-then-p-gt65536.result c.args.n 5 refl c.refused-then-p-gt65536.ensures (too_long c.args.n c.requires.0 c.args.b c.args.loops c.args.passes c.requires.1 c.requires.2 c.if-depth-ge8.false c.if-l-gt4.false c.if-p-gt65536.true) c.requires.0
+pub invariant_of-result : goal.invariant_of-result
+invariant_of-result c =
+    let n = c.args.n in record {
+      shallow = omega arith;
+      loops_are = grown_loops n c.args.b c.loops.result c.passes.result c.loops.ensures c.passes.ensures c.if-depth-ge8.false (search rules);
+      few_loops = c.if-loops-gt4.false;
+      product_is = grown_passes n c.args.b c.loops.result c.passes.result c.loops.ensures c.passes.ensures c.if-depth-ge8.false (search rules);
+      some_passes = NatL.mul-le-mul {n₁ = 1} {m₁ = 1} n.some_passes (rw c.passes.ensures c.requires.0);
+      few_passes = c.if-product-gt65536.false;
+    }
 
 pub returns : goal.returns
-returns c = one_more c.args.n c.requires.0 c.args.b c.args.loops c.args.passes c.requires.1 c.requires.2 c.if-depth-ge8.false c.if-l-gt4.false c.if-p-gt65536.false c.requires.3
+unfolding nested opens
+returns c =
+    let n = c.args.n in
+    one_more n c.args.b c.loops.result c.passes.result c.loops.ensures c.passes.ensures c.if-depth-ge8.false (search rules) c.if-loops-gt4.false c.if-product-gt65536.false

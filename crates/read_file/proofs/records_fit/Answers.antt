@@ -1,119 +1,108 @@
 -- `read_file::records_fit` meets its contract: each section's test in its turn, of the kernel's own section.
-use mathlib.Core.Path.{◌≡◌, sym, ap, ◌∙◌}
-use mathlib.Core.List.{List, []}
-use Prim.Native.Nat.{ℕ}
+use mathlib.Core.Path.{◌≡◌, refl, sym}
+use mathlib.Core.List.{[]}
 use native.Mathlib.Omega.{arith}
+use Rattle.std.proofs.lemmas.Result.{err_from_is_err_and}
 use Rattle.kernel.specs.File.{Kernel}
+use Rattle.kernel.specs.Named as Named
 use Rattle.kernel.specs.Reading.{array_scope, stream_scope, arrays_fit, statements_fit, rules_fit, read_file}
-use Rattle.parts.specs.declared.Part.{Part}
-use Rattle.parts.specs.Parts.{records_in, kernel, Lies}
-use Rattle.parts.proofs.Parts.{arrays_count, arrays_lie, array_lies, stream_lies, derivation_lies, buffers_are}
-use Rattle.read_counts.specs.View.{answer}
-use Rattle.read_file.specs.View.{checked}
+use Rattle.parts.specs.declared.Sections.{Sections}
+use Rattle.parts.specs.Parts.{kernel}
+use Rattle.parts.proofs.Parts.{arrays_count, buffers_are}
+use Rattle.read_file.specs.View.{checked, answer}
 use Rattle.read_file.proofs.Parts.{from_arrays, read_sections, go_arrays, stop_arrays, go_array_program, stop_array_program, go_stream_program, stop_stream_program, go_rules, stop_rules}
-use Rattle.read_file.proofs.records_fit.Goals.{Start, After-arrays_fit-a, After-statements_fit-s, After-statements_fit-t, After-rules_fit-d}
+use Rattle.read_file.proofs.records_fit.Goals.{Start, After-arrays_fit, After-statements_fit, After-statements_fit-2, After-rules_fit}
 use Rattle.read_file.proofs.records_fit.Goals as goal
 
-abbrev file : Start → List ℕ
-file s = s.args.file.now
+abbrev K : Sections → Kernel
+K s = kernel s.file.now s.counts
 
-abbrev K : Start → Kernel
-K s = kernel (file s) s.args.c
+-- ---- what each section's test came to
 
--- a part that is known to lie there, by another name
-lies : (file : List ℕ) {most : ℕ} {p q : Part} → q ≡ p → Lies most file p → Lies most file q
-lies file e l = rw e l
+read_from : (c : Start) → read_file c.args.s.file.now ≡ from_arrays (K c.args.s)
+read_from c = read_sections c.args.s.file.now (K c.args.s) c.requires.0 c.requires.1
+
+arrays_tested : (c : After-arrays_fit) → checked c.arrays_fit.result ≡ arrays_fit 0 0 0 (K c.args.s).arrays
+unfolding kernel
+arrays_tested c = rw (c.arrays.ensures.0, c.arrays.ensures.1) at c.arrays_fit.ensures
+
+array_tested : (c : After-statements_fit) → checked c.statements_fit.result ≡ statements_fit (array_scope (K c.args.s)) 4 0 [] (K c.args.s).array_program
+unfolding kernel Named.section
+array_tested c = rw (c.array_program.ensures.0, c.array_program.ensures.1) at c.statements_fit.ensures
+
+stream_tested : (c : After-statements_fit-2) → checked c.statements_fit-2.result ≡ statements_fit (stream_scope (K c.args.s)) 5 0 [] (K c.args.s).stream_program
+unfolding kernel Named.section
+stream_tested c = rw (c.stream_program.ensures.0, c.stream_program.ensures.1) at c.statements_fit-2.ensures
+
+-- a derivation's test is of every kernel of so many arrays and buffers
+rules_tested : (c : After-rules_fit) → checked c.rules_fit.result ≡ rules_fit (K c.args.s) 0 (K c.args.s).derivation
+unfolding kernel
+rules_tested c =
+    let s = c.args.s in
+    rw (c.derivation.ensures.0, c.derivation.ensures.1) at c.rules_fit.ensures (K s) (arrays_count s.file.now s.counts) (buffers_are s.file.now s.counts)
 
 -- ---- arrays
 
-pub arrays_fit-a-requires : goal.arrays_fit-a-requires
-arrays_fit-a-requires c = lies c.args.file.now c.arrays_part-arrays.ensures (arrays_lie c.args.file.now c.args.c c.requires.2)
-
-arrays_tested : (c : After-arrays_fit-a) → checked 3 c.arrays_fit-a.result ≡ arrays_fit 0 0 0 (kernel c.args.file.now c.args.c).arrays
-unfolding kernel
-arrays_tested c = c.arrays_fit-a.ensures ∙ ap (λ p. arrays_fit 0 0 0 (records_in c.args.file.now p)) c.arrays_part-arrays.ensures
-
-read_from : (s : Start) → read_file (file s) ≡ from_arrays (K s)
-read_from s = read_sections (file s) (K s) s.requires.0 s.requires.1
-
-pub returns-then-a-ne0 : goal.returns-then-a-ne0
+pub returns-in_err-arrays_fit : goal.returns-in_err-arrays_fit
 unfolding answer
-returns-then-a-ne0 c =
-    let g = goal.at.returns-then-a-ne0 c in
-    sym (stop_arrays (K g.Start) c.arrays_fit-a.result (read_from g.Start) (arrays_tested g.After-arrays_fit-a) c.if-a-ne0.true)
+returns-in_err-arrays_fit c =
+    let g = goal.at.returns-in_err-arrays_fit c in
+    let p = err_from_is_err_and c.from_residual.result c.from_residual.ensures.1 in
+    rw (p.1, p.2) (sym (stop_arrays (K c.args.s) (read_from g.Start) (arrays_tested g.After-arrays_fit) c.in_err-arrays_fit.was), tt)
 
--- ---- the array program
+pub invariant_of-arrays : goal.invariant_of-arrays
+unfolding checked
+invariant_of-arrays c =
+    let f = c.args.s.fills in record {
+      few = f.few.arrays;
+      there = omega (arith, f.whole);
+      fit = sym (rw (c.arrays.ensures.0, c.arrays.ensures.1) at c.in_ok-arrays_fit.ensures);
+    }
 
-pub statements_fit-s-requires : goal.statements_fit-s-requires
-statements_fit-s-requires c =
-    (c.kinds-kinds.ensures, (c.requires.2.few.arrays, omega (arith, c.requires.2.whole)), lies c.args.file.now c.array_part-array.ensures (array_lies c.args.file.now c.args.c c.requires.2))
+-- ---- the two programs
 
-array_tested : (c : After-statements_fit-s) → checked 4 c.statements_fit-s.result ≡ statements_fit (array_scope (kernel c.args.file.now c.args.c)) 4 0 [] (kernel c.args.file.now c.args.c).array_program
-unfolding kernel
-array_tested c = c.statements_fit-s.ensures ∙ ap (λ p. statements_fit (array_scope (kernel c.args.file.now c.args.c)) 4 0 [] (records_in c.args.file.now p)) c.array_part-array.ensures
-
-pub returns-then-s-ne0 : goal.returns-then-s-ne0
+pub returns-in_err-statements_fit : goal.returns-in_err-statements_fit
 unfolding answer
-returns-then-s-ne0 c =
-    let g = goal.at.returns-then-s-ne0 c in
-    let from_arrays = read_from g.Start in
-    let from_program = go_arrays (K g.Start) c.arrays_fit-a.result from_arrays (arrays_tested g.After-arrays_fit-a) c.if-a-ne0.false in
-    sym (stop_array_program (K g.Start) c.statements_fit-s.result from_program (array_tested g.After-statements_fit-s) c.if-s-ne0.true)
+returns-in_err-statements_fit c =
+    let g = goal.at.returns-in_err-statements_fit c in
+    let p = err_from_is_err_and c.from_residual-in_err-statements_fit.result c.from_residual-in_err-statements_fit.ensures.1 in
+    let from_program = go_arrays (K c.args.s) (read_from g.Start) (arrays_tested g.After-arrays_fit) c.in_ok-arrays_fit.was in
+    rw (p.1, p.2) (sym (stop_array_program (K c.args.s) from_program (array_tested g.After-statements_fit) c.in_err-statements_fit.was), tt)
 
--- ---- the stream program
-
-pub overflow_add-two : goal.overflow_add-two
-overflow_add-two c = let f = c.requires.2.few in omega (arith, f.registers, f.buffers)
-
-pub overflow_cast-two : goal.overflow_cast-two
-overflow_cast-two c = let f = c.requires.2.few in omega (arith, f.registers, f.buffers)
-
-pub statements_fit-t-requires : goal.statements_fit-t-requires
-statements_fit-t-requires c =
-    (c.kinds-kinds.ensures, (c.requires.2.few.arrays, omega (arith, c.requires.2.whole)), lies c.args.file.now c.stream_part-stream.ensures (stream_lies c.args.file.now c.args.c c.requires.2))
-
-stream_tested : (c : After-statements_fit-t) → checked 5 c.statements_fit-t.result ≡ statements_fit (stream_scope (kernel c.args.file.now c.args.c)) 5 0 [] (kernel c.args.file.now c.args.c).stream_program
-unfolding kernel
-stream_tested c = c.statements_fit-t.ensures ∙ ap (λ p. statements_fit (stream_scope (kernel c.args.file.now c.args.c)) 5 0 [] (records_in c.args.file.now p)) c.stream_part-stream.ensures
-
-pub returns-then-t-ne0 : goal.returns-then-t-ne0
+pub returns-in_err-statements_fit-2 : goal.returns-in_err-statements_fit-2
 unfolding answer
-returns-then-t-ne0 c =
-    let g = goal.at.returns-then-t-ne0 c in
-    let from_program = go_arrays (K g.Start) c.arrays_fit-a.result (read_from g.Start) (arrays_tested g.After-arrays_fit-a) c.if-a-ne0.false in
-    let from_stream = go_array_program (K g.Start) c.statements_fit-s.result from_program (array_tested g.After-statements_fit-s) c.if-s-ne0.false in
-    sym (stop_stream_program (K g.Start) c.statements_fit-t.result from_stream (stream_tested g.After-statements_fit-t) c.if-t-ne0.true)
+returns-in_err-statements_fit-2 c =
+    let g = goal.at.returns-in_err-statements_fit-2 c in
+    let p = err_from_is_err_and c.from_residual-in_err-statements_fit-2.result c.from_residual-in_err-statements_fit-2.ensures.1 in
+    let from_program = go_arrays (K c.args.s) (read_from g.Start) (arrays_tested g.After-arrays_fit) c.in_ok-arrays_fit.was in
+    let from_stream = go_array_program (K c.args.s) from_program (array_tested g.After-statements_fit) c.in_ok-statements_fit.was in
+    rw (p.1, p.2) (sym (stop_stream_program (K c.args.s) from_stream (stream_tested g.After-statements_fit-2) c.in_err-statements_fit-2.was), tt)
 
 -- ---- the derivation
 
-pub derivation_part-rules-requires : goal.derivation_part-rules-requires
-derivation_part-rules-requires c = c.requires.2.few
-
-pub rules_fit-d-requires : goal.rules_fit-d-requires
-rules_fit-d-requires c =
-    lies c.args.file.now c.derivation_part-rules.ensures (derivation_lies c.args.file.now c.args.c c.requires.2)
-
--- a derivation's test is of every kernel of so many arrays and buffers
-rules_tested : (c : After-rules_fit-d) → checked 6 c.rules_fit-d.result ≡ rules_fit (kernel c.args.file.now c.args.c) 0 (kernel c.args.file.now c.args.c).derivation
-unfolding kernel
-rules_tested c =
-    let k = kernel c.args.file.now c.args.c in
-    c.rules_fit-d.ensures k (arrays_count c.args.file.now c.args.c) (buffers_are c.args.file.now c.args.c) ∙ ap (λ p. rules_fit k 0 (records_in c.args.file.now p)) c.derivation_part-rules.ensures
-
-pub returns-then-d-ne0 : goal.returns-then-d-ne0
+pub returns-in_err-rules_fit : goal.returns-in_err-rules_fit
 unfolding answer
-returns-then-d-ne0 c =
-    let g = goal.at.returns-then-d-ne0 c in
-    let from_program = go_arrays (K g.Start) c.arrays_fit-a.result (read_from g.Start) (arrays_tested g.After-arrays_fit-a) c.if-a-ne0.false in
-    let from_stream = go_array_program (K g.Start) c.statements_fit-s.result from_program (array_tested g.After-statements_fit-s) c.if-s-ne0.false in
-    let from_derivation = go_stream_program (K g.Start) c.statements_fit-t.result from_stream (stream_tested g.After-statements_fit-t) c.if-t-ne0.false in
-    sym (stop_rules (K g.Start) c.rules_fit-d.result from_derivation (rules_tested g.After-rules_fit-d) c.if-d-ne0.true)
+returns-in_err-rules_fit c =
+    let g = goal.at.returns-in_err-rules_fit c in
+    let p = err_from_is_err_and c.from_residual-in_err-rules_fit.result c.from_residual-in_err-rules_fit.ensures.1 in
+    let from_program = go_arrays (K c.args.s) (read_from g.Start) (arrays_tested g.After-arrays_fit) c.in_ok-arrays_fit.was in
+    let from_stream = go_array_program (K c.args.s) from_program (array_tested g.After-statements_fit) c.in_ok-statements_fit.was in
+    let from_derivation = go_stream_program (K c.args.s) from_stream (stream_tested g.After-statements_fit-2) c.in_ok-statements_fit-2.was in
+    rw (p.1, p.2) (sym (stop_rules (K c.args.s) from_derivation (rules_tested g.After-rules_fit) c.in_err-rules_fit.was), tt)
+
+pub invariant_of-result : goal.invariant_of-result
+invariant_of-result c =
+    let g = goal.at.invariant_of-result c in
+    let from_program = go_arrays (K c.args.s) (read_from g.Start) (arrays_tested g.After-arrays_fit) c.in_ok-arrays_fit.was in
+    let from_stream = go_array_program (K c.args.s) from_program (array_tested g.After-statements_fit) c.in_ok-statements_fit.was in
+    let from_derivation = go_stream_program (K c.args.s) from_stream (stream_tested g.After-statements_fit-2) c.in_ok-statements_fit-2.was in
+    record { reads = go_rules (K c.args.s) from_derivation (rules_tested g.After-rules_fit) c.in_ok-rules_fit.was }
 
 pub returns : goal.returns
 unfolding answer
 returns c =
     let g = goal.at.returns c in
-    let from_program = go_arrays (K g.Start) c.arrays_fit-a.result (read_from g.Start) (arrays_tested g.After-arrays_fit-a) c.if-a-ne0.false in
-    let from_stream = go_array_program (K g.Start) c.statements_fit-s.result from_program (array_tested g.After-statements_fit-s) c.if-s-ne0.false in
-    let from_derivation = go_stream_program (K g.Start) c.statements_fit-t.result from_stream (stream_tested g.After-statements_fit-t) c.if-t-ne0.false in
-    sym (go_rules (K g.Start) c.rules_fit-d.result from_derivation (rules_tested g.After-rules_fit-d) c.if-d-ne0.false)
+    let from_program = go_arrays (K c.args.s) (read_from g.Start) (arrays_tested g.After-arrays_fit) c.in_ok-arrays_fit.was in
+    let from_stream = go_array_program (K c.args.s) from_program (array_tested g.After-statements_fit) c.in_ok-statements_fit.was in
+    let from_derivation = go_stream_program (K c.args.s) from_stream (stream_tested g.After-statements_fit-2) c.in_ok-statements_fit-2.was in
+    (sym (go_rules (K c.args.s) from_derivation (rules_tested g.After-rules_fit) c.in_ok-rules_fit.was), refl)

@@ -1,72 +1,80 @@
 -- `read_file::statements_fit` meets its contract. The invariant: the test from here on, with the blocks that are open, is the test of the whole.
-use Prim.Native.Nat.{◌≤◌}
-use mathlib.Core.Path.{sym, ap, subst, ◌∙◌}
+use Prim.Native.Nat.{◌<◌}
+use mathlib.Core.Path.{◌≡◌, sym, ap, ◌∙◌}
 use native.Mathlib.Omega.{arith}
 use native.Mathlib.Nat as NatL
-use lib.ListN.{drop}
-use Rattle.numbers.specs.Words.{words}
+use lib.ListN.{length, get_or}
+use Rattle.numbers.specs.Result.{stop}
 use Rattle.kernel.specs.File as File
-use Rattle.kernel.specs.File.{Rec, loop_of}
-use Rattle.kernel.specs.Reading.{records, after, statements_fit}
+use Rattle.kernel.specs.File.{nothing}
+use Rattle.kernel.specs.Named as Named
+use Rattle.kernel.specs.Reading.{after, statement_fits, statements_fit}
+use Rattle.parts.specs.Records.{rec}
+use Rattle.parts.specs.Tables.{rows}
+use Rattle.parts.proofs.Records.{count_is}
 use Rattle.read_records.specs.View.{scope}
 use Rattle.read_blocks.specs.View.{opens}
-use Rattle.read_blocks.proofs.Statements.{nested_fine}
 use Rattle.read_file.specs.View.{checked}
-use Rattle.read_file.proofs.Programs.{loop_there, unfit, blocked, goes_on, over, closed_none, closed_some, nested_stop, checked_stop}
-use borrow.Author.Rules.{rules}
+use Rattle.read_file.proofs.Programs.{loop_there, unfit, blocked, goes_on, over_closed, over_open}
+use Rattle.read_file.proofs.statements_fit.Goals.{After-statement_fits}
 use Rattle.read_file.proofs.statements_fit.Goals as goal
 
+-- the statement that is tested
+module _ (c : After-statement_fits) where
+  there : c.loop-i.i < length (rows c.args.program)
+  there = omega (arith, count_is c.args.program.file.now c.args.program.part, c.loop-i-test.true)
+
+  tested : statement_fits (scope c.args.held) (get_or (rows c.args.program) c.loop-i.i nothing) ≡ c.statement_fits.result
+  tested = ap (statement_fits (scope c.args.held)) (sym c.record-r.ensures) ∙ sym c.statement_fits.ensures
+
 pub loop-i-init : goal.loop-i-init
-loop-i-init c =
-    (omega arith, c.none-n.ensures.2, c.none-n.ensures.0, ap (λ os. statements_fit (scope c.args.file.now c.args.c) c.args.section 0 os (records c.args.count (drop c.args.at (words c.args.file.now)))) c.none-n.ensures.1)
+loop-i-init c = ap (λ os. statements_fit (scope c.args.held) (Named.section c.args.section) 0 os (rows c.args.program)) c.none-open.ensures
 
 pub returns-then-not-statement_fits : goal.returns-then-not-statement_fits
-unfolding checked
+unfolding checked Named.misread
 returns-then-not-statement_fits c =
     let l = c.loop-i in
-    sym (unfit (scope c.args.file.now c.args.c) c.args.section (words c.args.file.now) c.args.at c.args.count l.i c.loop-i-test.true (opens l.n) (sym c.statement_fits.ensures ∙ c.if-not-statement_fits.true))
-    ∙ l.invariant.3
+    let g = (goal.at.returns-then-not-statement_fits c).After-statement_fits in
+    ap (λ f. stop f) c.refused.ensures
+    ∙ sym (unfit (scope c.args.held) (Named.section c.args.section) (rows c.args.program) l.i (there g) (opens l.«open») (tested g ∙ c.if-not-statement_fits.true))
+    ∙ l.invariant
 
-pub after-n-requires : goal.after-n-requires
-after-n-requires c =
-    let l = c.loop-i in (
-      l.invariant.1,
-      l.invariant.2,
-      λ e. subst (λ r. (1 ≤ (loop_of r).passes) × ((loop_of r).passes ≤ 131072)) (sym c.record_at-r.ensures)
-          (loop_there (scope c.args.file.now c.args.c) _ (sym c.statement_fits.ensures ∙ c.if-not-statement_fits.false) (sym (ap (λ (r : Rec). r.code) c.record_at-r.ensures) ∙ e)),
-    )
+pub after-requires : goal.after-requires
+after-requires c = loop_there (scope c.args.held) (rec c.record-r.result) (sym c.if-not-statement_fits.ensures)
 
-pub returns-then-n-ne0 : goal.returns-then-n-ne0
-returns-then-n-ne0 c =
+pub returns-in-Err : goal.returns-in-Err
+unfolding checked
+returns-in-Err c =
     let l = c.loop-i in
-    let n = c.after-n.result in
-    checked_stop c.args.section (record { number = n.number; place = l.i }) c.if-n-ne0.true
-    ∙ sym (blocked (scope c.args.file.now c.args.c) c.args.section (words c.args.file.now) c.args.at c.args.count l.i c.loop-i-test.true (opens l.n) (sym c.statement_fits.ensures ∙ c.if-not-statement_fits.false) n.number (ap (λ r. after (File.statement r) (opens l.n)) (sym c.record_at-r.ensures) ∙ sym c.after-n.ensures.0 ∙ nested_stop n c.if-n-ne0.true))
-    ∙ l.invariant.3
+    let g = (goal.at.returns-in-Err c).After-statement_fits in
+    ap (λ f. stop f) c.refused-in-Err.ensures
+    ∙ sym (blocked (scope c.args.held) (Named.section c.args.section) (rows c.args.program) l.i (there g) (opens l.«open») (tested g ∙ c.if-not-statement_fits.false) c.in-Err.why
+    (c.in-Err.ensures ∙ ap (λ r. after (File.statement r) (opens l.«open»)) c.record-r.ensures))
+    ∙ l.invariant
 
 pub loop-i-preserved : goal.loop-i-preserved
 loop-i-preserved c =
     let l = c.loop-i in
-    let n = c.after-n.result in (
-      search rules,
-      c.after-n.ensures.1,
-      c.if-n-ne0.false,
-      goes_on (scope c.args.file.now c.args.c) c.args.section (words c.args.file.now) c.args.at c.args.count l.i c.loop-i-test.true (opens l.n) (sym c.statement_fits.ensures ∙ c.if-not-statement_fits.false) (opens n) (ap (λ r. after (File.statement r) (opens l.n)) (sym c.record_at-r.ensures) ∙ sym c.after-n.ensures.0 ∙ nested_fine n c.if-n-ne0.false)
-          ∙ l.invariant.3,
-    )
+    let g = (goal.at.loop-i-preserved c).After-statement_fits in
+    goes_on (scope c.args.held) (Named.section c.args.section) (rows c.args.program) l.i (there g) (opens l.«open») (tested g ∙ c.if-not-statement_fits.false) c.in-Ok.n
+    (c.in-Ok.ensures ∙ ap (λ r. after (File.statement r) (opens l.«open»)) c.record-r.ensures)
+    ∙ l.invariant
 
-pub returns-then-n-ne0-2 : goal.returns-then-n-ne0-2
-unfolding checked
-returns-then-n-ne0-2 c =
+pub returns-then-open-ne0 : goal.returns-then-open-ne0
+unfolding checked Named.misread
+returns-then-open-ne0 c =
     let l = c.loop-i in
-    sym (closed_some c.args.section c.args.count l.n l.invariant.1 (NatL.pos_of_ne-zero c.if-n-ne0-2.true))
-    ∙ sym (over (scope c.args.file.now c.args.c) c.args.section (words c.args.file.now) c.args.at c.args.count l.i (opens l.n) c.loop-i-test.false l.invariant.0)
-    ∙ l.invariant.3
+    let n = count_is c.args.program.file.now c.args.program.part in
+    ap (λ f. stop f) c.refused-then-open-ne0.ensures
+    ∙ sym (over_open (scope c.args.held) (Named.section c.args.section) (rows c.args.program) l.i l.«open» c.args.program.part.count
+    (omega (arith, n, c.loop-i-test.false)) (omega (arith, c.loop-i-test.false, l.auto.i-end)) (NatL.pos_of_ne-zero c.if-open-ne0.true))
+    ∙ l.invariant
 
 pub returns : goal.returns
 unfolding checked
 returns c =
     let l = c.loop-i in
-    sym (closed_none c.args.section c.args.count l.n c.if-n-ne0-2.false)
-    ∙ sym (over (scope c.args.file.now c.args.c) c.args.section (words c.args.file.now) c.args.at c.args.count l.i (opens l.n) c.loop-i-test.false l.invariant.0)
-    ∙ l.invariant.3
+    let n = count_is c.args.program.file.now c.args.program.part in
+    sym (over_closed (scope c.args.held) (Named.section c.args.section) (rows c.args.program) l.i l.«open» c.args.program.part.count
+    (omega (arith, n, c.loop-i-test.false)) (omega (arith, c.loop-i-test.false, l.auto.i-end)) c.if-open-ne0.false)
+    ∙ l.invariant

@@ -1,77 +1,61 @@
 -- `read_records::array_fits` meets its contract: a test of the code for each of the definition's.
-use mathlib.Core.Path.{◌≡◌, sym, ◌∙◌}
-use mathlib.Core.Bool.{true, not, ◌||◌}
-use mathlib.Core.List.{[], ◌∷◌}
-use lib.Dec.{eqb}
-use lib.IntN.{pos}
-use Rattle.numbers.specs.Words.{signed, between, within, inside, equal}
-use Rattle.numbers.proofs.Tests.{between_range, index_inside}
-use Rattle.kernel.specs.File.{side_of, on, step_of, index}
-use Rattle.kernel.specs.Reading as Reading
-use Rattle.read_records.proofs.Arrays.{moves, outside}
-use Rattle.read_records.proofs.Rules.{zeros_lead}
-use Rattle.read_records.proofs.array_fits.Goals.{Else-a, Else-a-eq0, Else-not-between, Else-not-between-2, Else-not-near, Else-not-sided, Else-not-zeros}
+use mathlib.Core.Path.{◌≡◌, sym, ap, ◌∙◌}
+use mathlib.Core.Bool.{not, ◌&&◌, ◌||◌}
+use lib.Dec.{eqb, ltb}
+use lib.IntN.{pos, ◌+ℤ◌, ◌*ℤ◌}
+use lib.ListN.{get_or, take, drop, length-drop}
+use Rattle.std.proofs.Math.Seq.{take-length}
+use Prim.Native.Nat.{◌-◌}
+use Rattle.numbers.specs.Words.{signed, between, within, inside}
+use Rattle.kernel.specs.Reading.{zeros}
+use Rattle.read_records.proofs.Tests.{by_then, by_else}
+use Rattle.read_records.proofs.Arrays.{tested, counted, in_turn}
+use Rattle.read_records.proofs.array_fits.Goals.{Joined-zeros, then-sided, else-sided, then-between, else-between, then-between-2, else-between-2, then-a-ne0, else-a-ne0, then-near, else-near, then-zeros, else-zeros}
 use Rattle.read_records.proofs.array_fits.Goals as goal
 
--- what each test left
-side_known : (c : Else-not-sided) → (eqb c.args.a.code 1 || eqb c.args.a.code 2) ≡ true
-side_known c = sym c.sided.ensures ∙ c.if-not-sided.false
-
-length_in : (c : Else-not-between) → between 1 4096 c.args.a.p ≡ true
-length_in c = sym c.between.ensures ∙ c.if-not-between.false
-
-count_in : (c : Else-not-between-2) → between 1 c.args.a.p c.args.a.k ≡ true
-count_in c = sym c.between-2.ensures ∙ c.if-not-between-2.false
-
-step_moves : (c : Else-a-eq0) → not (equal (signed c.args.a.x0) (pos 0)) ≡ true
-step_moves c = moves c.args.a.x0 c.if-a-eq0.false
-
-step_in : (c : Else-not-near) → within 4096 (signed c.args.a.x0) ≡ true
-step_in c = sym c.near.ensures ∙ c.if-not-near.false
-
-rest_zero : (c : Else-not-zeros) → Reading.zeros (c.args.a.x1 ∷ c.args.a.x2 ∷ c.args.a.x3 ∷ []) ≡ true
-rest_zero c = sym (c.zeros.ensures ∙ zeros_lead _) ∙ c.if-not-zeros.false
-
-first_in : (c : Else-a) → inside c.args.a.p (pos c.args.a.q) ≡ true
-first_in c = index_inside _ _ c.if-a.false
-
-pub returns-then-not-sided : goal.returns-then-not-sided
-unfolding Reading.array_fits on side_of
-returns-then-not-sided c = rw (sym c.sided.ensures ∙ c.if-not-sided.true)
-
-pub returns-then-not-between : goal.returns-then-not-between
-unfolding Reading.array_fits on side_of
-returns-then-not-between c = rw (side_known (goal.at.returns-then-not-between c).Else-not-sided, sym c.between.ensures ∙ c.if-not-between.true)
-
-pub returns-then-not-between-2 : goal.returns-then-not-between-2
-unfolding Reading.array_fits on side_of
-returns-then-not-between-2 c =
-    rw (side_known (goal.at.returns-then-not-between-2 c).Else-not-sided, length_in (goal.at.returns-then-not-between-2 c).Else-not-between, sym c.between-2.ensures ∙ c.if-not-between-2.true)
-
-pub returns-then-a-eq0 : goal.returns-then-a-eq0
-unfolding Reading.array_fits on side_of step_of signed equal
-returns-then-a-eq0 c =
-    rw (side_known (goal.at.returns-then-a-eq0 c).Else-not-sided, length_in (goal.at.returns-then-a-eq0 c).Else-not-between, count_in (goal.at.returns-then-a-eq0 c).Else-not-between-2, c.if-a-eq0.true)
-
-pub returns-then-not-near : goal.returns-then-not-near
-unfolding Reading.array_fits on side_of step_of
-returns-then-not-near c =
-    rw (side_known (goal.at.returns-then-not-near c).Else-not-sided, length_in (goal.at.returns-then-not-near c).Else-not-between, count_in (goal.at.returns-then-not-near c).Else-not-between-2, step_moves (goal.at.returns-then-not-near c).Else-a-eq0, sym c.near.ensures ∙ c.if-not-near.true)
-
-pub returns-then-not-zeros : goal.returns-then-not-zeros
-unfolding Reading.array_fits on side_of step_of
-returns-then-not-zeros c =
-    rw (side_known (goal.at.returns-then-not-zeros c).Else-not-sided, length_in (goal.at.returns-then-not-zeros c).Else-not-between, count_in (goal.at.returns-then-not-zeros c).Else-not-between-2, step_moves (goal.at.returns-then-not-zeros c).Else-a-eq0, step_in (goal.at.returns-then-not-zeros c).Else-not-near, sym (c.zeros.ensures ∙ zeros_lead _) ∙ c.if-not-zeros.true)
-
-pub returns-then-a : goal.returns-then-a
-unfolding Reading.array_fits on side_of step_of
-returns-then-a c =
-    rw (side_known (goal.at.returns-then-a c).Else-not-sided, length_in (goal.at.returns-then-a c).Else-not-between, count_in (goal.at.returns-then-a c).Else-not-between-2, step_moves (goal.at.returns-then-a c).Else-a-eq0, step_in (goal.at.returns-then-a c).Else-not-near, rest_zero (goal.at.returns-then-a c).Else-not-zeros, outside _ _ c.if-a.true)
+-- what the tests before the last index came to
+met : (c : Joined-zeros) → c.if-zeros.value ≡ tested c.args.a
+met c =
+    let a = c.args.a in
+    let v1 : c.if-sided.value ≡ ((eqb a.code 1 || eqb a.code 2) && between 1 4096 a.p) = elim c.if-sided.branch [
+      | then-sided w ↦ by_then _ (w.value-is ∙ w.between.ensures) (sym c.sided.ensures ∙ w.if-sided.true)
+      | else-sided w ↦ by_else _ (w.value-is ∙ c.sided.ensures) (sym c.sided.ensures ∙ w.if-sided.false)
+    ] in
+    let v2 : c.if-between.value ≡ (c.if-sided.value && between 1 a.p a.k) = elim c.if-between.branch [
+      | then-between w ↦ by_then _ (w.value-is ∙ w.between-then-between.ensures) w.if-between.true
+      | else-between w ↦ by_else _ w.value-is w.if-between.false
+    ] in
+    let v3 : c.if-between-2.value ≡ (c.if-between.value && not (eqb (get_or a.x 0 0) 0)) = elim c.if-between-2.branch [
+      | then-between-2 w ↦ by_then _ w.value-is w.if-between-2.true
+      | else-between-2 w ↦ by_else _ w.value-is w.if-between-2.false
+    ] in
+    let v4 : c.if-a-ne0.value ≡ (c.if-between-2.value && within 4096 (signed (get_or a.x 0 0))) = elim c.if-a-ne0.branch [
+      | then-a-ne0 w ↦ by_then _ (w.value-is ∙ w.near.ensures) w.if-a-ne0.true
+      | else-a-ne0 w ↦ by_else _ w.value-is w.if-a-ne0.false
+    ] in
+    let v5 : c.if-near.value ≡ (c.if-a-ne0.value && zeros (drop 1 a.x)) = elim c.if-near.branch [
+      | then-near w ↦ by_then _ (w.value-is ∙ w.zeros.ensures ∙ ap zeros (ap (λ n. take n (drop 1 a.x)) (sym (length-drop 1 a.x)) ∙ take-length (drop 1 a.x))) w.if-near.true
+      | else-near w ↦ by_else _ w.value-is w.if-near.false
+    ] in
+    let v6 : c.if-zeros.value ≡ (c.if-near.value && ltb a.q a.p) = elim c.if-zeros.branch [
+      | then-zeros w ↦ by_then _ w.value-is w.if-zeros.true
+      | else-zeros w ↦ by_else _ w.value-is w.if-zeros.false
+    ] in
+    v6 ∙ ap (λ b. b && ltb a.q a.p) (v5 ∙ ap (λ b. b && zeros (drop 1 a.x)) (v4 ∙ ap (λ b. b && within 4096 (signed (get_or a.x 0 0))) (v3 ∙ ap (λ b. b && not (eqb (get_or a.x 0 0) 0)) (v2 ∙ ap (λ b. b && between 1 a.p a.k) v1))))
 
 pub last_inside-requires : goal.last_inside-requires
-last_inside-requires c = (between_range 1 _ _ (count_in (goal.at.last_inside-requires c).Else-not-between-2)).0
+last_inside-requires c = counted c.args.a (sym (met (goal.at.last_inside-requires c).Joined-zeros) ∙ c.if-a.true)
 
-pub returns : goal.returns
-unfolding Reading.array_fits on side_of step_of index
-returns c =
-    rw (side_known (goal.at.returns c).Else-not-sided, length_in (goal.at.returns c).Else-not-between, count_in (goal.at.returns c).Else-not-between-2, step_moves (goal.at.returns c).Else-a-eq0, step_in (goal.at.returns c).Else-not-near, rest_zero (goal.at.returns c).Else-not-zeros, first_in (goal.at.returns c).Else-a) c.last_inside.ensures
+pub returns-then-a : goal.returns-then-a
+returns-then-a c =
+    let a = c.args.a in
+    c.last_inside.ensures
+    ∙ ap (λ b. b && inside a.p (pos a.q +ℤ signed (get_or a.x 0 0) *ℤ pos (a.k - 1))) (sym c.if-a.true ∙ met (goal.at.returns-then-a c).Joined-zeros)
+    ∙ in_turn a
+
+pub returns-else-a : goal.returns-else-a
+returns-else-a c =
+    let a = c.args.a in
+    c.if-a.false
+    ∙ ap (λ b. b && inside a.p (pos a.q +ℤ signed (get_or a.x 0 0) *ℤ pos (a.k - 1))) (sym c.if-a.false ∙ met (goal.at.returns-else-a c).Joined-zeros)
+    ∙ in_turn a

@@ -1,28 +1,23 @@
--- `read_records::bare_fits` meets its contract: seven zeros are three and four.
-use mathlib.Core.Path.{◌≡◌, sym, ◌∙◌}
-use mathlib.Core.Bool.{true}
-use mathlib.Core.List.{[], ◌∷◌}
-use Rattle.numbers.specs.Words.{between}
+-- `read_records::bare_fits` meets its contract.
+use mathlib.Core.Path.{◌≡◌, sym, ap, ◌∙◌}
+use mathlib.Core.List.{◌∷◌}
+use lib.ListN.{length}
+use Rattle.std.proofs.Common.{rules}
+use Rattle.std.specs.Prelude.{is_ok}
 use Rattle.kernel.specs.File.{numbers}
 use Rattle.kernel.specs.Reading as Reading
-use Rattle.read_records.proofs.Rules.{zeros_lead, zeros_three}
-use Rattle.read_records.proofs.bare_fits.Goals.{Else-not-between, Else-not-zeros}
+use Rattle.read_records.proofs.Tables.{four}
+use Rattle.read_records.proofs.Tests.{ruled_ok}
 use Rattle.read_records.proofs.bare_fits.Goals as goal
 
--- what each test left
-coded : (c : Else-not-between) → between 1 10 c.args.d.code ≡ true
-coded c = sym c.between.ensures ∙ c.if-not-between.false
-
-three : (c : Else-not-zeros) → Reading.zeros (c.args.d.p ∷ c.args.d.q ∷ c.args.d.k ∷ []) ≡ true
-three c = sym (c.zeros.ensures ∙ zeros_lead _) ∙ c.if-not-zeros.false
-
-pub returns-then-not-between : goal.returns-then-not-between
-returns-then-not-between c = rw (sym c.between.ensures ∙ c.if-not-between.true)
-
-pub returns-then-not-zeros : goal.returns-then-not-zeros
+pub returns-then-is_ok : goal.returns-then-is_ok
 unfolding numbers
-returns-then-not-zeros c = rw (coded (goal.at.returns-then-not-zeros c).Else-not-between, zeros_three, sym (c.zeros.ensures ∙ zeros_lead _) ∙ c.if-not-zeros.true)
+returns-then-is_ok c =
+    let d = c.args.d in
+    let long : length d.x ≡ 4 = search rules in
+    rw (sym (c.is_ok.ensures.value ∙ ap is_ok c.try_from.ensures ∙ ruled_ok d.code) ∙ c.if-is_ok.true)
+    (c.zeros.ensures ∙ ap (λ x. Reading.zeros (d.p ∷ d.q ∷ d.k ∷ x)) (four d.x long))
 
-pub returns : goal.returns
-unfolding numbers
-returns c = rw (coded (goal.at.returns c).Else-not-between, zeros_three, three (goal.at.returns c).Else-not-zeros) c.zeros-2.ensures
+pub returns-else-is_ok : goal.returns-else-is_ok
+returns-else-is_ok c =
+    rw (sym (c.is_ok.ensures.value ∙ ap is_ok c.try_from.ensures ∙ ruled_ok c.args.d.code) ∙ c.if-is_ok.false) c.if-is_ok.false

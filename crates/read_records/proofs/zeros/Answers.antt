@@ -1,42 +1,17 @@
 -- `read_records::zeros` meets its contract.
-use mathlib.Core.Path.{◌≡◌, sym}
-use mathlib.Core.Bool.{true}
+use mathlib.Core.Path.{◌∙◌}
 use lib.Dec.{eqb}
-use borrow.Author.Tests.{eq-eqb, ne_eqb}
-use Rattle.numbers.specs.Lists.{every}
+use Rattle.std.proofs.Common.{rules, tests}
+use Rattle.std.proofs.lemmas.Iterator.{YieldsList-from_slice}
+use Rattle.std.proofs.lemmas.Iterator.Search.{all_from_yields_List}
 use Rattle.kernel.specs.Reading as Reading
-use Rattle.read_records.proofs.zeros.Goals.{Else-a-ne0, Else-b-ne0, Else-c-ne0, Else-d-ne0}
+use Rattle.read_records.proofs.Tests.{all_zeros}
 use Rattle.read_records.proofs.zeros.Goals as goal
 
--- what each test left
-first : (c : Else-a-ne0) → eqb 0 c.args.a ≡ true
-first c = eq-eqb _ _ (sym c.if-a-ne0.false)
-
-second : (c : Else-b-ne0) → eqb 0 c.args.b ≡ true
-second c = eq-eqb _ _ (sym c.if-b-ne0.false)
-
-third : (c : Else-c-ne0) → eqb 0 c.args.c ≡ true
-third c = eq-eqb _ _ (sym c.if-c-ne0.false)
-
-fourth : (c : Else-d-ne0) → eqb 0 c.args.d ≡ true
-fourth c = eq-eqb _ _ (sym c.if-d-ne0.false)
-
-pub returns-then-a-ne0 : goal.returns-then-a-ne0
-unfolding Reading.zeros every
-returns-then-a-ne0 c = rw (ne_eqb 0 c.args.a (λ e. c.if-a-ne0.true (sym e)))
-
-pub returns-then-b-ne0 : goal.returns-then-b-ne0
-unfolding Reading.zeros every
-returns-then-b-ne0 c = rw (first (goal.at.returns-then-b-ne0 c).Else-a-ne0, ne_eqb 0 c.args.b (λ e. c.if-b-ne0.true (sym e)))
-
-pub returns-then-c-ne0 : goal.returns-then-c-ne0
-unfolding Reading.zeros every
-returns-then-c-ne0 c = rw (first (goal.at.returns-then-c-ne0 c).Else-a-ne0, second (goal.at.returns-then-c-ne0 c).Else-b-ne0, ne_eqb 0 c.args.c (λ e. c.if-c-ne0.true (sym e)))
-
-pub returns-then-d-ne0 : goal.returns-then-d-ne0
-unfolding Reading.zeros every
-returns-then-d-ne0 c = rw (first (goal.at.returns-then-d-ne0 c).Else-a-ne0, second (goal.at.returns-then-d-ne0 c).Else-b-ne0, third (goal.at.returns-then-d-ne0 c).Else-c-ne0, ne_eqb 0 c.args.d (λ e. c.if-d-ne0.true (sym e)))
-
 pub returns : goal.returns
-unfolding Reading.zeros every
-returns c = rw (first (goal.at.returns c).Else-a-ne0, second (goal.at.returns c).Else-b-ne0, third (goal.at.returns c).Else-c-ne0, fourth c)
+unfolding Reading.zeros
+returns c =
+    all_from_yields_List (λ w. eqb w 0) _ _ c.all.result c.all.ensures.ran
+    (YieldsList-from_slice c.args.ws.now cc)
+    (λ x b q k. search (rules, tests))
+    ∙ all_zeros c.args.ws.now

@@ -1,91 +1,169 @@
 -- The cycle {run_block, run_statement} meets its contracts, by the laws of `Runs` and `Standing`.
-use Prim.Native.Nat.{ℕ, ◌+◌, ◌<◌}
+use Rattle.std.specs.Prelude.{Ok}
+use Prim.Native.Nat.{ℕ, ◌+◌, ◌≤◌}
 use mathlib.Core.Path.{◌≡◌, sym, ap, subst, ◌∙◌}
 use mathlib.Core.List.{List}
 use native.Mathlib.Omega.{arith}
-use lib.ListN.{length, get_or}
+use lib.ListN.{length}
 use Rattle.numbers.specs.Result.{Result}
 use Rattle.numbers.specs.Words.{words}
 use Rattle.forms.specs.Form.{Loop}
 use Rattle.forms.specs.Code.{loop}
-use Rattle.kernel.specs.File.{Rec, nothing, loop_of}
+use Rattle.kernel.specs.File as File
+use Rattle.kernel.specs.File.{Rec}
+use Rattle.kernel.specs.Blocks.{said, StopsAt, at_an_else, at_an_end}
 use Rattle.kernel.specs.Machine as Machine
-use Rattle.kernel.specs.Machine.{Layout, State, Stuck, in_pass, repeat, run}
-use Rattle.parts.specs.declared.Part.{Part}
-use Rattle.parts.specs.Parts.{records_in, Lies}
+use Rattle.kernel.specs.Machine.{Layout, State, Stuck, in_pass, run}
+use Rattle.kernel.specs.Trees.{tree_at}
+use Rattle.kernel.proofs.Sayings.{said_there}
+use Rattle.parts.specs.declared.RecordTable.{RecordTable}
+use Rattle.parts.specs.declared.statements.Statement.{Statement}
+use Rattle.parts.specs.declared.statements.Statement.TheVariants.{Else, End}
+use Rattle.parts.specs.Statements.{op, statement, stated}
+use Rattle.parts.specs.Tables.{rows}
 use Rattle.parts.proofs.Records.{count_is}
 use Rattle.run_loops.specs.declared.Counters.{Counters}
 use Rattle.run_loops.specs.View.{counters, CountersSmall}
 use Rattle.run_ops.specs.States.{state, stopped}
 use Rattle.run_ops.specs.Layout.{layout}
-use Rattle.kernel.specs.Trees.{tree_at}
-use Rattle.run_blocks.specs.View.{Stands, Due}
-use Rattle.run_blocks.proofs.Runs.{stands, over, went, stuck_there, pass_next, pass_all}
-use Rattle.run_blocks.proofs.Standing.{goes_on, next_stands, performs, plain_runs, loop_fits, loop_deep, loop_level, body_stands, loop_runs, if_deep, if_unset, if_stands, if_runs, went_on}
+use Rattle.run_blocks.specs.View.{Stands, Due, ran, head, taken}
+use Rattle.run_blocks.proofs.Runs.{Going, going, run_stops, head_stops, nothing_said, went, stuck_there, handed, went_on, placed_ran, placed_ok, placed_err, speaks, pass_next, pass_all}
+use Rattle.run_blocks.proofs.Standing.{next_stands, performs, plain_runs, loop_fits, loop_deep, loop_level, body_stands, loop_runs, if_register, if_deep, if_block, if_stands, if_sticks, if_runs}
+use mathlib.Core.Logic.{◌⊎◌, inl, inr}
+use Rattle.run_blocks.proofs.+run_block_run_statement.Goals.{run_block-In-Ok, run_block-Else-matches, run_block-in-Else, run_block-in_default-matches, run_statement-In-Does, run_statement-In-For, run_statement-In-If}
 use Rattle.run_blocks.proofs.+run_block_run_statement.Goals as goal
 
--- ---- a block
+-- there are few records
+few : (r : RecordTable) → length (rows r) ≤ 1024
+few r = omega (arith, count_is r.file.now r.part, r.lies.few)
 
--- a statement of a block is to run, unless it closes the block
-due : {file : List ℕ} {part : Part} {i code : ℕ} {a : Counters} → Lies 256 file part → i < part.count → code ≡ (get_or (records_in file part) i nothing).code → code < 10 → Stands (records_in file part) i a → Due file part i code a
-due l h e n s = record { lies = l; there = h; is_code = e; low = n; stands = s }
+-- an else or an end closes a block
+closes : {rs : List Rec} {i : ℕ} (s : Statement) → said rs i ≡ statement s → (s ≡ Else) ⊎ (s ≡ End) → StopsAt rs i
+unfolding statement
+closes s z (inl e) = at_an_else (z ∙ ap statement e)
+closes s z (inr e) = at_an_end (z ∙ ap statement e)
 
-pub run_block-returns-then-code-ge-ELSES : goal.run_block-returns-then-code-ge-ELSES
-run_block-returns-then-code-ge-ELSES t c =
+-- ---- a block, where a statement was read
+
+says : (t : ℕ) (c : run_block-In-Ok t) → said (rows c.args.records) c.loop-s.i ≡ statement c.in-Ok.s
+unfolding stated
+says t c = sym (c.in-Ok.ensures ∙ ap File.statement c.record.ensures)
+
+due : (t : ℕ) (c : run_block-In-Ok t) → Due (rows c.args.records) c.loop-s.i (statement c.in-Ok.s) c.args.a.now
+due t c =
+    record { there = said_there (rows c.args.records) c.loop-s.i (says t c) (speaks c.in-Ok.s); says = says t c; stands = c.loop-s.invariant.1 c.requires.0 }
+
+-- it is no else and no end
+goes : (t : ℕ) (c : run_block-Else-matches t) (d : Due (rows c.args.records) c.loop-s.i (statement c.in-Ok.s) c.args.a.now)
+    → Going (rows c.args.records) c.loop-s.i d.stands.begins (layout c.args.arrays.now) (counters c.args.a.now)
+goes t c d =
+    let by : (c.in-Ok.s ≡ Else → ⊥) → (c.in-Ok.s ≡ End → ⊥) → Going (rows c.args.records) c.loop-s.i d.stands.begins (layout c.args.arrays.now) (counters c.args.a.now) =
+    going (rows c.args.records) c.loop-s.i d.stands.begins d.there (layout c.args.arrays.now) (counters c.args.a.now) c.in-Ok.s d.says in
+    elim c.match-matches.branch [
+      | run_block-in-Else w ↦ absurd (cc (c.if-matches.false, w.matches-is))
+      | run_block-in_default-matches w ↦ by w.in_default-matches.not-Else w.in_default-matches.not-End
+    ]
+
+pub run_block-run_statement-requires : goal.run_block-run_statement-requires
+run_block-run_statement-requires t c =
+    let d = due t (goal.at.run_block-run_statement-requires t c).In-Ok in
+    (omega (arith, c.decreases), (d, c.requires.1, c.loop-s.invariant.0))
+
+pub run_block-returns-in_err-run_statement : goal.run_block-returns-in_err-run_statement
+run_block-returns-in_err-run_statement t c =
+    let at = goal.at.run_block-returns-in_err-run_statement t c in
+    let v = c.loop-s in
+    let r = c.run_statement in
+    let g = goes t at.Else-matches (due t at.In-Ok) in
+    let after = state r.new.machine (words r.new.output) in
+    let e = c.in_err-run_statement.ensures in
+    (handed c.from_residual.result _ after c.from_residual.ensures.1 ∙ stuck_there after _ _ _ (g.runs (state v.machine (words v.output))) _ e.0 ∙ sym v.invariant.2, e.1)
+
+pub run_block-next_of-i-requires : goal.run_block-next_of-i-requires
+run_block-next_of-i-requires t c =
+    let d = due t (goal.at.run_block-next_of-i-requires t c).In-Ok in
+    (sym d.says, d.there, d.stands.begins)
+
+pub run_block-loop-s-smaller : goal.run_block-loop-s-smaller
+run_block-loop-s-smaller t c =
+    let at = goal.at.run_block-loop-s-smaller t c in
+    let d = due t at.In-Ok in
+    let g = goes t at.Else-matches d in
+    omega (arith, g.later, c.next_of-i.ensures, d.there, count_is c.args.records.file.now c.args.records.part)
+
+pub run_block-loop-s-preserved : goal.run_block-loop-s-preserved
+run_block-loop-s-preserved t c =
+    let at = goal.at.run_block-loop-s-preserved t c in
     let a = c.args in
-    let v = c.loop-i in
-    let s = state v.regs v.places (words v.out) in
-    let there : v.i < length (records_in a.file.now a.part) = omega (arith, c.loop-i-test.true, count_is a.file.now a.part) in
-    let closes = stands (records_in a.file.now a.part) v.i (v.invariant.1 c.requires.1).begins there (layout a.sizes.now a.bases.now (words a.input.now)) (counters a.a) (omega (arith, c.code_in-code.ensures, c.if-code-ge-ELSES.true)) s in
-    (went_on _ _ s c.stuck_at.ensures.0 ∙ closes ∙ sym v.invariant.2, v.invariant.0)
-
-pub run_block-run_statement-s-requires : goal.run_block-run_statement-s-requires
-run_block-run_statement-s-requires t c =
-    let v = c.loop-i in
-    (omega (arith, c.decreases), (due c.requires.0 c.loop-i-test.true c.code_in-code.ensures c.if-code-ge-ELSES.false (v.invariant.1 c.requires.1), c.requires.2, v.invariant.0))
-
-pub run_block-returns-then-s-ne0 : goal.run_block-returns-then-s-ne0
-run_block-returns-then-s-ne0 t c =
-    let a = c.args in
-    let v = c.loop-i in
-    let r = c.run_statement-s in
-    let d = due c.requires.0 c.loop-i-test.true c.code_in-code.ensures c.if-code-ge-ELSES.false (v.invariant.1 c.requires.1) in
-    let going = goes_on d (layout a.sizes.now a.bases.now (words a.input.now)) (counters a.a) in
-    (stuck_there _ _ (state r.new.regs r.new.places (words r.new.out)) _ _ _ (going.runs (state v.regs v.places (words v.out))) r.ensures.0 c.if-s-ne0.true ∙ sym v.invariant.2, r.ensures.1)
-
-pub run_block-loop-i-smaller : goal.run_block-loop-i-smaller
-run_block-loop-i-smaller t c =
-    let a = c.args in
-    let d = due c.requires.0 c.loop-i-test.true c.code_in-code.ensures c.if-code-ge-ELSES.false (c.loop-i.invariant.1 c.requires.1) in
-    let going = goes_on d (layout a.sizes.now a.bases.now (words a.input.now)) (counters a.a) in
-    omega (arith, going.later, c.next_of-i.ensures, c.loop-i-test.true)
-
-pub run_block-loop-i-preserved : goal.run_block-loop-i-preserved
-run_block-loop-i-preserved t c =
-    let a = c.args in
-    let v = c.loop-i in
-    let r = c.run_statement-s in
-    let rs = records_in a.file.now a.part in
-    let e = layout a.sizes.now a.bases.now (words a.input.now) in
-    let d = due c.requires.0 c.loop-i-test.true c.code_in-code.ensures c.if-code-ge-ELSES.false (v.invariant.1 c.requires.1) in
-    let after = state r.new.regs r.new.places (words r.new.out) in
+    let v = c.loop-s in
+    let r = c.run_statement in
+    let rs = rows a.records in
+    let e = layout a.arrays.now in
+    let d = due t at.In-Ok in
+    let g = goes t at.Else-matches d in
+    let after = state r.new.machine (words r.new.output) in
     let next = sym c.next_of-i.ensures in (
-      r.ensures.1,
-      (λ _. subst (λ i. Stands rs i a.a) next (next_stands d e)),
+      c.in_ok-run_statement.ensures.1,
+      (λ _. subst (λ i. Stands rs i a.a.now) next (next_stands d.stands d.there g)),
       v.invariant.2
-          ∙ went _ _ after _ _ _ ((goes_on d e (counters a.a)).runs (state v.regs v.places (words v.out))) r.ensures.0 c.if-s-ne0.false
-          ∙ ap (λ i. run e (tree_at rs i) (counters a.a) after) next,
+          ∙ went after _ _ _ (g.runs (state v.machine (words v.output))) c.in_ok-run_statement.ensures.0
+          ∙ ap (λ i. run e (tree_at rs i) (counters a.a.now) after) next,
     )
 
-pub run_block-returns : goal.run_block-returns
-run_block-returns t c =
+pub run_block-returns-then-matches : goal.run_block-returns-then-matches
+run_block-returns-then-matches t c =
+    let at = goal.at.run_block-returns-then-matches t c in
     let a = c.args in
-    let v = c.loop-i in
-    let s = state v.regs v.places (words v.out) in
-    let ends = over (records_in a.file.now a.part) v.i (v.invariant.1 c.requires.1).begins (layout a.sizes.now a.bases.now (words a.input.now)) (counters a.a) (omega (arith, c.loop-i-test.false, count_is a.file.now a.part)) s in
-    (went_on _ _ s c.stuck_at-2.ensures.0 ∙ ends ∙ sym v.invariant.2, v.invariant.0)
+    let v = c.loop-s in
+    let s = state v.machine (words v.output) in
+    let d = due t at.In-Ok in
+    let closing : StopsAt (rows a.records) v.i = elim c.match-matches.branch [
+      | run_block-in-Else w ↦ closes _ d.says w.in-Else.is
+      | run_block-in_default-matches w ↦ absurd (cc (c.if-matches.true, w.matches-is))
+    ] in
+    (went_on s ∙ run_stops (rows a.records) v.i d.stands.begins closing (layout a.arrays.now) (counters a.a.now) s ∙ sym v.invariant.2, v.invariant.0)
 
--- ---- a statement: a for, whose loop was read
+-- where nothing is read the program is over
+pub run_block-returns-in_default : goal.run_block-returns-in_default
+unfolding stated
+run_block-returns-in_default t c =
+    let a = c.args in
+    let v = c.loop-s in
+    let s = state v.machine (words v.output) in
+    let b = (v.invariant.1 c.requires.0).begins in
+    let over = nothing_said (rows a.records) v.i b (ap File.statement (sym c.record.ensures) ∙ sym c.in_default.ensures) in
+    (went_on s ∙ run_stops (rows a.records) v.i b over (layout a.arrays.now) (counters a.a.now) s ∙ sym v.invariant.2, v.invariant.0)
+
+-- ---- one that holds no block
+
+does : (t : ℕ) (c : run_statement-In-Does t) → said (rows c.args.records) c.args.i ≡ File.does (op c.in-Does.o)
+unfolding statement
+does t c = c.requires.0.says ∙ ap statement c.in-Does.is
+
+pub run_statement-perform-requires : goal.run_statement-perform-requires
+run_statement-perform-requires t c =
+    let d = c.requires.0 in
+    (performs d.stands d.there (does t (goal.at.run_statement-perform-requires t c).In-Does), c.requires.1, c.requires.2)
+
+pub run_statement-stuck_at-requires : goal.run_statement-stuck_at-requires
+run_statement-stuck_at-requires t c = omega (arith, c.requires.0.there, few c.args.records)
+
+pub run_statement-returns-in-Does : goal.run_statement-returns-in-Does
+run_statement-returns-in-Does t c =
+    let a = c.args in
+    let r = c.perform in
+    let d = c.requires.0 in
+    let after = state r.new.machine (words r.new.output) in
+    let says = does t (goal.at.run_statement-returns-in-Does t c).In-Does in
+    let runs = plain_runs d.stands d.there says (layout a.arrays.now) (counters a.a.now) (state a.machine.now (words a.output.now)) in
+    let answered : ran c.stuck_at.result after ≡ stopped r.result a.i after = ap (λ r. ran r after) c.stuck_at.ensures ∙ placed_ran a.i r.result after in
+    (answered ∙ r.ensures.0 a.i ∙ sym runs, r.ensures.1)
+
+-- ---- a for
+
+for : (t : ℕ) (c : run_statement-In-For t) → said (rows c.args.records) c.args.i ≡ File.for (loop c.in-For.l)
+unfolding statement
+for t c = c.requires.0.says ∙ ap statement c.in-For.is
 
 -- a pass of it
 abbrev pass : (rs : List Rec) (i : ℕ) → Layout → Machine.Counters → Loop → ℕ → State → Result Stuck State
@@ -94,118 +172,141 @@ pass rs i e cs l m s = run e (tree_at rs (i + 1)) (in_pass l cs m) s
 pub run_statement-in_pass-b-requires : goal.run_statement-in_pass-b-requires
 run_statement-in_pass-b-requires t c =
     let d = c.requires.0 in
-    let z = c.if-code-eq-FORS.true in
-    let q = c.loop_of-l.ensures ∙ ap loop_of c.record_in.ensures in
-    (c.requires.1, loop_fits d z _ q, c.loop-m-test.true, loop_deep d z _ q, loop_level d z _ q)
+    let says = for t (goal.at.run_statement-in_pass-b-requires t c).In-For in
+    (c.requires.1, loop_fits d.stands d.there says, c.loop-m-test.true, loop_deep d.stands d.there says, loop_level d.stands d.there says)
 
-pub run_statement-run_block-s-requires : goal.run_statement-run_block-s-requires
-run_statement-run_block-s-requires t c =
+pub run_statement-overflow_add-i : goal.run_statement-overflow_add-i
+run_statement-overflow_add-i t c = omega (arith, c.requires.0.there, few c.args.records)
+
+pub run_statement-run_block-requires : goal.run_statement-run_block-requires
+run_statement-run_block-requires t c =
     let d = c.requires.0 in
-    let z = c.if-code-eq-FORS.true in
-    let q = c.loop_of-l.ensures ∙ ap loop_of c.record_in.ensures in
+    let says = for t (goal.at.run_statement-run_block-requires t c).In-For in
     let b = c.in_pass-b in (
-      omega (arith, c.decreases, b.ensures.1, loop_deep d z _ q),
-      (d.lies, body_stands d z _ q b.result b.ensures.1 (ap (λ (c : Machine.Counters). c.level) b.ensures.0), b.ensures.2, c.loop-m.invariant.0),
+      omega (arith, c.decreases, b.ensures.1, loop_deep d.stands d.there says),
+      (body_stands d.stands d.there says b.result b.ensures.1 (ap (λ (c : Machine.Counters). c.level) b.ensures.0), b.ensures.2, c.loop-m.invariant.0),
     )
 
-pub run_statement-returns-then-s-ne0 : goal.run_statement-returns-then-s-ne0
-run_statement-returns-then-s-ne0 t c =
+pub run_statement-returns-in_err-run_block-in-For : goal.run_statement-returns-in_err-run_block-in-For
+run_statement-returns-in_err-run_block-in-For t c =
     let a = c.args in
     let v = c.loop-m in
-    let r = c.run_block-s in
-    let rs = records_in a.file.now a.part in
-    let e = layout a.sizes.now a.bases.now (words a.input.now) in
-    let l = loop c.loop_of-l.result in
-    let first = state a.regs.now a.places.now (words a.out.now) in
-    let before = state v.regs v.places (words v.out) in
-    let after = state r.new.regs r.new.places (words r.new.out) in
-    let next = pass_next (pass rs a.i e (counters a.a) l) l.passes first v.m before c.loop-m-test.true v.invariant.1 in
-    let ran = r.ensures.0 ∙ ap (λ cs. run e (tree_at rs (a.i + 1)) cs before) c.in_pass-b.ensures.0 in
-    let all = loop_runs c.requires.0 c.if-code-eq-FORS.true l (c.loop_of-l.ensures ∙ ap loop_of c.record_in.ensures) e (counters a.a) first in
-    (stuck_there _ _ after _ _ _ next ran c.if-s-ne0.true ∙ sym all, r.ensures.1)
+    let r = c.run_block in
+    let d = c.requires.0 in
+    let rs = rows a.records in
+    let e = layout a.arrays.now in
+    let l = loop c.in-For.l in
+    let first = state a.machine.now (words a.output.now) in
+    let before = state v.machine (words v.output) in
+    let after = state r.new.machine (words r.new.output) in
+    let next = pass_next (pass rs a.i e (counters a.a.now) l) l.passes first v.m before c.loop-m-test.true v.invariant.1 in
+    let stuck = c.in_err-run_block-in-For.ensures in
+    let went_in = stuck.0 ∙ ap (λ cs. run e (tree_at rs (a.i + 1)) cs before) c.in_pass-b.ensures.0 in
+    let all = loop_runs d.stands d.there (for t (goal.at.run_statement-returns-in_err-run_block-in-For t c).In-For) e (counters a.a.now) first in
+    (handed c.from_residual.result _ after c.from_residual.ensures.1 ∙ stuck_there after _ _ _ next _ went_in ∙ sym all, stuck.1)
 
 pub run_statement-loop-m-preserved : goal.run_statement-loop-m-preserved
 run_statement-loop-m-preserved t c =
     let a = c.args in
     let v = c.loop-m in
-    let r = c.run_block-s in
-    let rs = records_in a.file.now a.part in
-    let e = layout a.sizes.now a.bases.now (words a.input.now) in
-    let l = loop c.loop_of-l.result in
-    let first = state a.regs.now a.places.now (words a.out.now) in
-    let before = state v.regs v.places (words v.out) in
-    let after = state r.new.regs r.new.places (words r.new.out) in
-    let next = pass_next (pass rs a.i e (counters a.a) l) l.passes first v.m before c.loop-m-test.true v.invariant.1 in
-    let ran = r.ensures.0 ∙ ap (λ cs. run e (tree_at rs (a.i + 1)) cs before) c.in_pass-b.ensures.0 in
-    (r.ensures.1, went _ _ after _ _ _ next ran c.if-s-ne0.false)
+    let r = c.run_block in
+    let rs = rows a.records in
+    let e = layout a.arrays.now in
+    let l = loop c.in-For.l in
+    let first = state a.machine.now (words a.output.now) in
+    let before = state v.machine (words v.output) in
+    let after = state r.new.machine (words r.new.output) in
+    let next = pass_next (pass rs a.i e (counters a.a.now) l) l.passes first v.m before c.loop-m-test.true v.invariant.1 in
+    let done = c.in_ok-run_block-in-For.ensures in
+    let went_in = done.0 ∙ ap (λ cs. run e (tree_at rs (a.i + 1)) cs before) c.in_pass-b.ensures.0 in
+    (done.1, went after _ _ _ next went_in)
 
-pub run_statement-returns-then-code-eq-FORS : goal.run_statement-returns-then-code-eq-FORS
-run_statement-returns-then-code-eq-FORS t c =
+pub run_statement-returns-after-loop-m : goal.run_statement-returns-after-loop-m
+run_statement-returns-after-loop-m t c =
     let a = c.args in
     let v = c.loop-m in
-    let rs = records_in a.file.now a.part in
-    let e = layout a.sizes.now a.bases.now (words a.input.now) in
-    let l = loop c.loop_of-l.result in
-    let first = state a.regs.now a.places.now (words a.out.now) in
-    let s = state v.regs v.places (words v.out) in
-    let all = loop_runs c.requires.0 c.if-code-eq-FORS.true l (c.loop_of-l.ensures ∙ ap loop_of c.record_in.ensures) e (counters a.a) first in
-    let done = pass_all (pass rs a.i e (counters a.a) l) l.passes first v.m s c.loop-m-test.false v.invariant.1 in
-    (went_on _ _ s c.stuck_at.ensures.0 ∙ done ∙ sym all, v.invariant.0)
+    let d = c.requires.0 in
+    let rs = rows a.records in
+    let e = layout a.arrays.now in
+    let l = loop c.in-For.l in
+    let first = state a.machine.now (words a.output.now) in
+    let s = state v.machine (words v.output) in
+    let all = loop_runs d.stands d.there (for t (goal.at.run_statement-returns-after-loop-m t c).In-For) e (counters a.a.now) first in
+    let done = pass_all (pass rs a.i e (counters a.a.now) l) l.passes first v.m s c.loop-m-test.false v.invariant.1 in
+    (went_on s ∙ done ∙ sym all, v.invariant.0)
 
 -- ---- an if
 
-pub run_statement-returns-then-block-eq0 : goal.run_statement-returns-then-block-eq0
-run_statement-returns-then-block-eq0 t c =
-    let a = c.args in
-    let ws = words a.out.now in
-    let sticks = if_unset c.requires.0 c.if-code-eq-IFS.true a.regs.now a.places.now ws c.chosen-block.result (layout a.sizes.now a.bases.now (words a.input.now)) (counters a.a) c.chosen-block.ensures c.if-block-eq0.true in
-    let at = c.stuck_at-then-block-eq0.ensures in
-    ((λ x. stopped (at.0 x) (at.1 x) (state a.regs.now a.places.now ws)) ∙ sticks, c.requires.2)
+if : (t : ℕ) (c : run_statement-In-If t) → said (rows c.args.records) c.args.i ≡ File.if c.in-If.p
+unfolding statement
+if t c = c.requires.0.says ∙ ap statement c.in-If.is
 
-pub run_statement-in_if-b-requires : goal.run_statement-in_if-b-requires
-run_statement-in_if-b-requires t c = if_deep c.requires.0 c.if-code-eq-IFS.true
+pub run_statement-word-requires : goal.run_statement-word-requires
+run_statement-word-requires t c =
+    let d = c.requires.0 in
+    if_register d.stands d.there (if t (goal.at.run_statement-word-requires t c).In-If)
 
-pub run_statement-run_block-requires : goal.run_statement-run_block-requires
-run_statement-run_block-requires t c =
+pub run_statement-stuck_at-requires-in-If : goal.run_statement-stuck_at-requires-in-If
+run_statement-stuck_at-requires-in-If t c = omega (arith, c.requires.0.there, few c.args.records)
+
+pub run_statement-returns-in_err-w-in-If : goal.run_statement-returns-in_err-w-in-If
+run_statement-returns-in_err-w-in-If t c =
     let a = c.args in
     let d = c.requires.0 in
-    let z = c.if-code-eq-IFS.true in
+    let ws = words a.output.now in
+    let s = state a.machine.now ws in
+    let says = if t (goal.at.run_statement-returns-in_err-w-in-If t c).In-If in
+    let (k, got, stuck) = placed_err a.i _ c.word.result s (c.word.ensures ws) c.in_err-w-in-If.ensures in
+    (handed c.from_residual-in_err-w-in-If.result _ s c.from_residual-in_err-w-in-If.ensures.1 ∙ stuck ∙ if_sticks d.stands d.there says (layout a.arrays.now) (counters a.a.now) s got, c.requires.2)
+
+pub run_statement-in_if-b-requires : goal.run_statement-in_if-b-requires
+run_statement-in_if-b-requires t c =
+    let d = c.requires.0 in
+    if_deep d.stands d.there (if t (goal.at.run_statement-in_if-b-requires t c).In-If)
+
+pub run_statement-chosen-requires : goal.run_statement-chosen-requires
+run_statement-chosen-requires t c =
+    let d = c.requires.0 in
+    if_block d.stands d.there (if t (goal.at.run_statement-chosen-requires t c).In-If)
+
+pub run_statement-run_block-requires-in-If : goal.run_statement-run_block-requires-in-If
+run_statement-run_block-requires-in-If t c =
+    let d = c.requires.0 in
+    let says = if t (goal.at.run_statement-run_block-requires-in-If t c).In-If in
     let b = c.in_if-b in
     let left = ap (λ (b : Counters). b.left) b.ensures in
     let level = ap (λ (b : Counters). b.level) b.ensures in
-    let small = c.requires.1 in
-    let at = if_stands d z a.regs.now a.places.now (words a.out.now) c.chosen-block.result (layout a.sizes.now a.bases.now (words a.input.now)) (counters a.a) c.chosen-block.ensures c.if-block-eq0.false b.result (left, level) in (
-      omega (arith, c.decreases, left, if_deep d z),
-      (
-        d.lies,
-        at,
-        subst CountersSmall (sym b.ensures) (record { c0_small = small.c0_small; c1_small = small.c1_small; c2_small = small.c2_small; c3_small = small.c3_small }),
-        c.requires.2,
-      ),
+    let at = if_stands d.stands d.there says c.in_ok-w-in-If.w b.result (left, level) in (
+      omega (arith, c.decreases, left, if_deep d.stands d.there says),
+      (subst (λ n. Stands (rows c.args.records) n b.result) (sym c.chosen.ensures) at, subst CountersSmall (sym b.ensures) (record { each = c.requires.1.each }), c.requires.2),
     )
 
-pub run_statement-returns-then-code-eq-IFS : goal.run_statement-returns-then-code-eq-IFS
-run_statement-returns-then-code-eq-IFS t c =
+pub run_statement-returns-in_ok-w-in-If : goal.run_statement-returns-in_ok-w-in-If
+run_statement-returns-in_ok-w-in-If t c =
     let a = c.args in
-    let r = c.run_block in
-    let rs = records_in a.file.now a.part in
-    let e = layout a.sizes.now a.bases.now (words a.input.now) in
-    let ws = words a.out.now in
-    let runs = if_runs c.requires.0 c.if-code-eq-IFS.true a.regs.now a.places.now ws c.chosen-block.result e (counters a.a) c.chosen-block.ensures c.if-block-eq0.false in
-    (r.ensures.0 ∙ ap (λ (b : Counters). run e (tree_at rs c.chosen-block.result) (counters b) (state a.regs.now a.places.now ws)) c.in_if-b.ensures ∙ runs, r.ensures.1)
-
--- ---- one that holds no block
-
-pub run_statement-perform-reason-requires : goal.run_statement-perform-reason-requires
-run_statement-perform-reason-requires t c = (performs c.requires.0 c.if-code-eq-FORS.false c.if-code-eq-IFS.false, c.requires.1, c.requires.2)
-
-pub run_statement-returns : goal.run_statement-returns
-run_statement-returns t c =
-    let a = c.args in
-    let r = c.perform-reason in
+    let r = c.run_block-in-If in
     let d = c.requires.0 in
-    let p = performs d c.if-code-eq-FORS.false c.if-code-eq-IFS.false in
-    let after = state r.new.registers r.new.places (words r.new.output) in
-    let says = plain_runs d c.if-code-eq-FORS.false c.if-code-eq-IFS.false (layout a.sizes.now a.bases.now (words a.input.now)) (counters a.a) (state a.regs.now a.places.now (words a.out.now)) in
-    let at = c.stuck_at-2.ensures in
-    ((λ x. stopped (at.0 x) (at.1 x) after) ∙ r.ensures.0 p.op p.says a.i ∙ sym says, r.ensures.1)
+    let rs = rows a.records in
+    let e = layout a.arrays.now in
+    let ws = words a.output.now in
+    let s = state a.machine.now ws in
+    let says = if t (goal.at.run_statement-returns-in_ok-w-in-If t c).In-If in
+    let got = placed_ok a.i c.word.result (c.word.ensures ws) c.in_ok-w-in-If.ensures in
+    let there = ap (λ n. run e (tree_at rs n) (counters c.in_if-b.result) s) c.chosen.ensures in
+    let inner = ap (λ (b : Counters). run e (tree_at rs (taken rs a.i c.in_ok-w-in-If.w)) (counters b) s) c.in_if-b.ensures in
+    (r.ensures.0 ∙ there ∙ inner ∙ if_runs d.stands d.there says e (counters a.a.now) s got, r.ensures.1)
+
+-- ---- an else or an end
+
+stops : {rs : List Rec} {i : ℕ} {a : Counters} (s : Statement) (d : Due rs i (statement s) a) → (s ≡ Else) ⊎ (s ≡ End) → (e : Layout) (c : Machine.Counters) (m : State) → ran (Ok tt) m ≡ head e (tree_at rs i) c m
+stops {rs} {i} s d h e c m = went_on m ∙ head_stops rs i d.stands.begins (closes s d.says h) e c m
+
+pub run_statement-returns-in-Else : goal.run_statement-returns-in-Else
+run_statement-returns-in-Else t c =
+    let a = c.args in
+    (stops a.s.now c.requires.0 c.in-Else.is (layout a.arrays.now) (counters a.a.now) (state a.machine.now (words a.output.now)), c.requires.2)
+
+pub run_statement-returns-in-Else-2 : goal.run_statement-returns-in-Else-2
+run_statement-returns-in-Else-2 t c =
+    let a = c.args in
+    (stops a.s.now c.requires.0 c.in-Else.is (layout a.arrays.now) (counters a.a.now) (state a.machine.now (words a.output.now)), c.requires.2)

@@ -1,22 +1,11 @@
--- `run_calls::array_run_of` meets its contract: the program's part lies in the file, and its run is that of the kernel.
-use mathlib.Core.Path.{sym, subst}
-use Rattle.parts.proofs.Parts.{few}
-use Rattle.run_calls.specs.View.{Ready}
+-- `run_calls::array_run_of` meets its contract: the run of the kernel is that of its file.
+use mathlib.Core.Path.{subst}
+use Rattle.run_calls.specs.View.{kernel_of}
 use Rattle.run_calls.specs.Promises.{Runs}
-use Rattle.run_calls.proofs.Ready.{array_ready}
 use Rattle.run_calls.proofs.Calls.{array_call}
 use Rattle.run_calls.proofs.array_run_of.Goals as goal
 
-pub array_part-part-requires : goal.array_part-part-requires
-array_part-part-requires c = few c.args.file.now c.args.c c.requires
-
-pub run-requires : goal.run-requires
-run-requires c =
-    subst (Ready c.args.file.now c.args.c) (sym c.array_part-part.ensures) (array_ready c.args.file.now c.args.c c.requires)
-
 pub returns : goal.returns
 returns c =
-    let r = c.run in
-    subst (λ x. Runs x c.args.output.now r.result r.new.output)
-    (array_call c.args.file.now c.args.c c.requires c.args.input.now c.args.output.now _ c.array_part-part.ensures)
-    r.ensures
+    let a = c.args in
+    subst (λ r. Runs r a.output.now c.run.result c.run.new.output) (array_call a.k.file.now (kernel_of a.k) a.k.reads a.input.now a.output.now) c.run.ensures

@@ -1,18 +1,12 @@
 -- `run_calls::put_back` meets its contract: reading first.
-use mathlib.Core.Path.{sym, refl}
-use Rattle.kernel.specs.File.{output, length_of, count_of}
-use Rattle.kernel.specs.Reading.{fault}
-use Rattle.kernel.specs.Memory as Memory
-use Rattle.read_counts.specs.View as Found
-use Rattle.read_counts.proofs.One.{read_as}
-use Rattle.run_calls.proofs.Calls.{refused_move, call_stops}
+use mathlib.Core.Path.{sym}
+use Rattle.read_file.specs.View as Found
+use Rattle.run_calls.specs.View.{refusal}
+use Rattle.run_calls.proofs.Calls.{refused_move, put_back_stops}
 use Rattle.run_calls.proofs.put_back.Goals as goal
 
-pub put_back_of-requires : goal.put_back_of-requires
-put_back_of-requires c = read_as c.args.file.now _ _ c.in-Kernel.ensures refl
-
-pub returns-in-Refused : goal.returns-in-Refused
-unfolding Found.answer Memory.putting_back
-returns-in-Refused c =
+pub returns-in_err-read : goal.returns-in_err-read
+unfolding Found.answer refusal
+returns-in_err-read c =
     let a = c.args in
-    refused_move _ _ _ _ _ (call_stops (Memory.total output count_of) (Memory.total output length_of) Memory.put_back a.file.now a.streams.now a.arrays.now (fault _ _ _) (sym c.in-Refused.ensures))
+    refused_move _ _ _ _ c.from_residual.ensures.1 (put_back_stops a.file.now _ (sym c.in_err-read.ensures.0) a.streams.now a.arrays.now)

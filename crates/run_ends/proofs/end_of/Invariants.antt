@@ -1,10 +1,8 @@
-use Prim.Native.Nat.{◌-◌, ◌*◌, ◌≤◌, ◌<◌}
-use Rattle.parts.specs.Parts.{records_in}
+use Prim.Native.Nat.{◌*◌, ◌≤◌}
+use Rattle.parts.specs.Tables.{rows}
 use Rattle.run_ends.proofs.Scan.{Scanning}
 use Rattle.run_ends.proofs.end_of.Given as goal
 
-abbrev pub invariant-loop-part : goal.invariant-loop-part
-invariant-loop-part l = Scanning (records_in l.file l.part) l.i l.depth l.j × (l.depth ≤ 2 * l.j) × (l.j < l.part.count)
-
-abbrev pub decreases-loop-part : goal.decreases-loop-part
-decreases-loop-part l = l.part.count - l.j
+-- the block sought stops where the one stops that follows the next `depth` elses and ends
+abbrev pub invariant-loop-j : goal.invariant-loop-j
+invariant-loop-j l = Scanning (rows l.records) l.i l.depth l.j × (l.depth ≤ 2 * l.j)

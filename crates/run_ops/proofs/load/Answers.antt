@@ -1,26 +1,43 @@
 -- `run_ops::load` meets its contract: the form names a cell or not.
-use native.Mathlib.Omega.{arith}
-use Rattle.numbers.specs.Words.{words}
+use mathlib.Core.Path.{◌≡◌, ap, ◌∙◌}
+use Rattle.numbers.proofs.Signs.{back, as_returned}
 use Rattle.forms.specs.Form.{value}
 use Rattle.forms.specs.Code.{form}
+use Rattle.kernel.specs.File.{load}
+use Rattle.kernel.specs.Named.{reason}
+use Rattle.parts.proofs.Room.{form_room}
 use Rattle.run_loops.specs.View.{counters}
-use Rattle.run_ops.specs.Layout.{layout}
-use Rattle.run_ops.proofs.Index.{number_in, number_out}
-use Rattle.run_ops.proofs.Cells.{cell_there, load_outside, loads}
+use Rattle.run_ops.specs.States.{state}
+use Rattle.run_ops.specs.Layout.{layout, cell_at}
+use Rattle.run_ops.proofs.States.{given, refused, ends, sticks}
+use Rattle.run_ops.proofs.Cells.{load_sticks, loads}
+use Rattle.run_ops.proofs.load.Goals.{After-value}
 use Rattle.run_ops.proofs.load.Goals as goal
 
-pub returns-then-i-n : goal.returns-then-i-n
-returns-then-i-n c =
+pub value-requires : goal.value-requires
+value-requires c = (form_room c.args.f c.requires.0.fits.2, c.requires.1.each)
+
+-- the form's value, as the code has it
+is : (c : After-value) → back c.value.result ≡ value (form c.args.f) c.args.a.now.values
+is c = as_returned {z = c.value.result} c.value.type_inv ∙ c.value.ensures
+
+pub returns-in_err-from : goal.returns-in_err-from
+unfolding reason
+returns-in_err-from c =
     let g = c.args in
-    let e = layout g.sizes.now g.bases.now (words g.input.now) in
-    let z = value (form g.f) (counters g.a).values in
-    λ ps ws n. load_outside e n (counters g.a) g.registers.now ps ws g.p g.q (form g.f) (number_out 33 z c.entry-n.ensures c.cell_number-i.ensures (omega (arith, c.if-i-n.true)))
+    let e = layout g.arrays.now in
+    let cs = counters g.a.now in
+    let f = form g.f in
+    let at = refused _ (c.in_err-from.ensures.0 ∙ ap (cell_at e g.q 33) (is (goal.at.returns-in_err-from c).After-value)) in
+    λ ws n. sticks e n (load g.p g.q f) cs (state g.machine.now ws) c.from_residual.result _ c.from_residual.ensures.1
+    (load_sticks g.arrays.now cs.values g.machine.now g.p g.q ws f _ at)
 
 pub returns : goal.returns
+unfolding reason
 returns c =
     let g = c.args in
-    let e = layout g.sizes.now g.bases.now (words g.input.now) in
-    let z = value (form g.f) (counters g.a).values in
-    let at = number_in 33 z c.entry-n.ensures c.cell_number-i.ensures (omega (arith, c.if-i-n.false)) in
-    let v = cell_there g.sizes.now g.bases.now g.input.now g.q c.cell_number-i.result c.entry-b.ensures c.word.ensures in
-    λ ps ws n. loads e n (counters g.a) g.registers.now ps ws g.p g.q (form g.f) at c.word.result (omega (arith, c.word.type_inv)) v
+    let e = layout g.arrays.now in
+    let cs = counters g.a.now in
+    let f = form g.f in
+    let at = given _ (c.in_ok-from.ensures.0 ∙ ap (cell_at e g.q 33) (is (goal.at.returns c).After-value)) in
+    λ ws n. ends e n (load g.p g.q f) cs (state g.machine.now ws) (loads g.arrays.now cs.values g.machine.now g.p g.q ws f at c.word.ensures)

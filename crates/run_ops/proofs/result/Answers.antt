@@ -1,36 +1,42 @@
--- `run_ops::result` meets its contract: a word for each operator, and no word for a zero divisor.
-use mathlib.Core.Path.{sym, ap, ◌∙◌}
-use native.Mathlib.Omega.{arith}
-use Rattle.numbers.specs.Result.{ok}
-use Rattle.kernel.specs.File.{add, subtract, multiply, divide, operator}
+-- `run_ops::result` meets its contract: a word for each operator, or none for a zero divisor.
+use Prim.Native.Nat.{ℕ}
+use mathlib.Core.Path.{◌≡◌, refl, sym, ap, ◌∙◌}
+use mathlib.Core.Bool.{not}
+use borrow.Author.Tests.{eq-eqb, ne_eqb}
+use Rattle.numbers.specs.Result.{ok, stop, need}
+use Rattle.numbers.specs.Words.{over}
+use Rattle.kernel.specs.File.{divide}
 use Rattle.kernel.specs.Machine as Machine
-use Rattle.run_ops.proofs.Registers.{divides, quotient, no_quotient, gives, gives_none}
+use Rattle.kernel.specs.Named.{reason}
+use Rattle.parts.specs.Statements.{operator}
+use Rattle.run_ops.specs.States.{worked}
+use Rattle.run_ops.proofs.States.{goes_on, stops}
 use Rattle.run_ops.proofs.result.Goals as goal
 
-pub returns-then-operator-eq1 : goal.returns-then-operator-eq1
-unfolding operator Machine.result
-returns-then-operator-eq1 c =
-    let g = c.args in
-    gives g.operator g.a g.b add (ap operator c.if-operator-eq1.true) (omega (arith, c.plus.type_inv)) (ap ok (sym c.plus.ensures))
+quotient : (a b : ℕ) → (b ≡ 0 → ⊥) → Machine.result divide a b ≡ ok (over a b)
+unfolding Machine.result need
+quotient a b h = goes_on _ (ap (λ t. need 32 (not t)) (ne_eqb b 0 h)) refl
 
-pub returns-then-operator-eq2 : goal.returns-then-operator-eq2
-unfolding operator Machine.result
-returns-then-operator-eq2 c =
-    let g = c.args in
-    gives g.operator g.a g.b subtract (ap operator c.if-operator-eq2.true) (omega (arith, c.minus.type_inv)) (ap ok (sym c.minus.ensures))
+no_quotient : (a b : ℕ) → b ≡ 0 → Machine.result divide a b ≡ stop 32
+unfolding Machine.result need
+no_quotient a b h = stops _ (ap (λ t. need 32 (not t)) (eq-eqb b 0 h))
 
-pub returns-then-operator-eq3 : goal.returns-then-operator-eq3
-unfolding operator Machine.result
-returns-then-operator-eq3 c =
-    let g = c.args in
-    gives g.operator g.a g.b multiply (ap operator c.if-operator-eq3.true) (omega (arith, c.times.type_inv)) (ap ok (sym c.times.ensures))
+pub returns-in-Add : goal.returns-in-Add
+unfolding operator Machine.result worked
+returns-in-Add c = rw c.in-Add.is (ap ok c.plus.ensures)
 
-pub returns-then-b-eq0 : goal.returns-then-b-eq0
-returns-then-b-eq0 c =
-    let g = c.args in
-    gives_none g.operator g.a g.b divide (divides g.operator c.if-operator-eq1.false c.if-operator-eq2.false c.if-operator-eq3.false) (omega arith) (no_quotient g.a g.b c.if-b-eq0.true)
+pub returns-in-Subtract : goal.returns-in-Subtract
+unfolding operator Machine.result worked
+returns-in-Subtract c = rw c.in-Subtract.is (ap ok c.minus.ensures)
 
-pub returns : goal.returns
-returns c =
-    let g = c.args in
-    gives g.operator g.a g.b divide (divides g.operator c.if-operator-eq1.false c.if-operator-eq2.false c.if-operator-eq3.false) (omega (arith, c.over.type_inv)) (quotient g.a g.b c.if-b-eq0.false ∙ ap ok (sym c.over.ensures))
+pub returns-in-Multiply : goal.returns-in-Multiply
+unfolding operator Machine.result worked
+returns-in-Multiply c = rw c.in-Multiply.is (ap ok c.times.ensures)
+
+pub returns-in-Divide : goal.returns-in-Divide
+unfolding operator worked reason
+returns-in-Divide c = rw c.in-Divide.is (sym (no_quotient c.args.a c.args.b c.if-b-eq0.true))
+
+pub returns-in-Divide-2 : goal.returns-in-Divide-2
+unfolding operator worked
+returns-in-Divide-2 c = rw c.in-Divide-2.is (ap ok c.over.ensures ∙ sym (quotient c.args.a c.args.b c.if-b-eq0.false))

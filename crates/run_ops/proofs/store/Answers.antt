@@ -1,48 +1,66 @@
 -- `run_ops::store` meets its contract: the register is set or not, then the form names a cell or not.
-use Prim.Native.Nat.{ℕ, ◌+◌, ◌^◌, ◌<◌}
+use mathlib.Core.Path.{◌≡◌, ap, ◌∙◌}
+use Prim.Native.Nat.{◌^◌, ◌<◌}
 use native.Mathlib.Omega.{arith}
-use lib.IntN.{ℤ}
-use lib.ListN.{get_or}
 use Rattle.numbers.specs.Words.{words}
+use Rattle.numbers.proofs.Signs.{back, as_returned}
 use Rattle.forms.specs.Form.{value}
 use Rattle.forms.specs.Code.{form}
+use Rattle.kernel.specs.File.{store}
+use Rattle.kernel.specs.Machine.{perform}
+use Rattle.kernel.specs.Named.{reason}
+use Rattle.parts.proofs.Room.{form_room}
 use Rattle.run_loops.specs.View.{counters}
-use Rattle.run_ops.specs.Layout.{layout}
-use Rattle.run_ops.proofs.Index.{number_in, number_out}
-use Rattle.run_ops.proofs.Cells.{words_after, whole_after, store_unset, store_outside, stores}
-use Rattle.run_ops.proofs.store.Goals.{After-cell_number-j}
+use Rattle.run_ops.specs.States.{state}
+use Rattle.run_ops.specs.Layout.{layout, cell_at}
+use Rattle.run_ops.proofs.States.{stops, given, refused, ends, sticks}
+use Rattle.run_ops.proofs.Cells.{whole_after, store_sticks, stores}
+use Rattle.run_ops.proofs.store.Goals.{After-value}
 use Rattle.run_ops.proofs.store.Goals as goal
 
-pub returns-then-v-ge-NO_WORD : goal.returns-then-v-ge-NO_WORD
-returns-then-v-ge-NO_WORD c =
+pub value-requires : goal.value-requires
+value-requires c = (form_room c.args.f c.requires.0.fits.2, c.requires.1.each)
+
+-- the form's value, as the code has it
+is : (c : After-value) → back c.value.result ≡ value (form c.args.f) c.args.a.now.values
+is c = as_returned {z = c.value.result} c.value.type_inv ∙ c.value.ensures
+
+pub returns-in_err-v : goal.returns-in_err-v
+unfolding perform
+returns-in_err-v c =
     let g = c.args in
-    let rs = g.registers.now in
-    (λ m ps n. store_unset (layout g.sizes.now g.bases.now m) n (counters g.a) rs ps (words g.output.now) g.p g.q (form g.f) (omega (arith, c.if-v-ge-NO_WORD.true)), c.requires.4)
+    let ws = words g.output.now in (
+      λ n. sticks (layout g.arrays.now) n (store g.p g.q (form g.f)) (counters g.a.now) (state g.machine.now ws) c.from_residual.result _ c.from_residual.ensures.1
+          (stops _ (refused _ (c.in_err-v.ensures ws))),
+      c.requires.2,
+    )
 
--- where the cell's number is found: what is stored, and at which index
-module _ (c : After-cell_number-j) where
-  abbrev stored : ℕ
-  stored = get_or c.args.registers.now c.args.p 0
-
-  is_set : stored < 2 ^ 32
-  is_set = omega (arith, c.if-v-ge-NO_WORD.false)
-
-  abbrev index : ℤ
-  index = value (form c.args.f) (counters c.args.a).values
-
-pub returns-then-j-n : goal.returns-then-j-n
-returns-then-j-n c =
+pub returns-in_err-to : goal.returns-in_err-to
+unfolding reason
+returns-in_err-to c =
     let g = c.args in
-    let out = number_out 33 (index (goal.at.returns-then-j-n c).After-cell_number-j) c.entry-n.ensures c.cell_number-j.ensures (omega (arith, c.if-j-n.true)) in
-    (λ m ps n. store_outside (layout g.sizes.now g.bases.now m) n (counters g.a) g.registers.now ps (words g.output.now) g.p g.q (form g.f) (is_set (goal.at.returns-then-j-n c).After-cell_number-j) out, c.requires.4)
+    let e = layout g.arrays.now in
+    let cs = counters g.a.now in
+    let f = form g.f in
+    let ws = words g.output.now in
+    let at = refused _ (c.in_err-to.ensures.0 ∙ ap (cell_at e g.q 33) (is (goal.at.returns-in_err-to c).After-value)) in (
+      λ n. sticks e n (store g.p g.q f) cs (state g.machine.now ws) c.from_residual-in_err-to.result _ c.from_residual-in_err-to.ensures.1
+          (store_sticks g.arrays.now cs.values g.machine.now g.p g.q g.output.now c.in_ok-v.v (given _ (c.in_ok-v.ensures ws)) f _ at),
+      c.requires.2,
+    )
 
 pub returns : goal.returns
+unfolding reason
 returns c =
-    let done = c.put_word.ensures in
-    let base = c.entry-b in
     let g = c.args in
-    let k = base.result + c.cell_number-j.result in
-    let at = number_in 33 (index (goal.at.returns c).After-cell_number-j) c.entry-n.ensures c.cell_number-j.ensures (omega (arith, c.if-j-n.false)) in (
-      λ m ps n. stores (layout g.sizes.now g.bases.now m) n (counters g.a) g.registers.now ps (words g.output.now) g.p g.q (form g.f) (is_set (goal.at.returns c).After-cell_number-j) at base.ensures (words_after g.output.now k (stored (goal.at.returns c).After-cell_number-j) (is_set (goal.at.returns c).After-cell_number-j) done),
-      whole_after g.output.now k (stored (goal.at.returns c).After-cell_number-j) (is_set (goal.at.returns c).After-cell_number-j) done c.requires.4,
+    let e = layout g.arrays.now in
+    let cs = counters g.a.now in
+    let f = form g.f in
+    let w = c.in_ok-v.v in
+    let ws = words g.output.now in
+    let at = given _ (c.in_ok-to.ensures.0 ∙ ap (cell_at e g.q 33) (is (goal.at.returns c).After-value)) in
+    let small : w < 2 ^ 32 = omega arith in (
+      λ n. ends e n (store g.p g.q f) cs (state g.machine.now ws)
+          (stores g.arrays.now cs.values g.machine.now g.p g.q g.output.now w (given _ (c.in_ok-v.ensures ws)) f at small c.put_word.ensures),
+      whole_after g.output.now c.in_ok-to.to w small c.put_word.ensures c.requires.2,
     )

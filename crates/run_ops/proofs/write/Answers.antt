@@ -1,42 +1,60 @@
 -- `run_ops::write` meets its contract: the register is set or not, then the stream has room or not.
-use Prim.Native.Nat.{ℕ, ◌+◌, ◌^◌, ◌<◌}
+use mathlib.Core.Path.{◌≡◌, ap, ◌∙◌}
+use Prim.Native.Nat.{◌^◌, ◌<◌}
 use native.Mathlib.Omega.{arith}
+use lib.IntN.{pos, nat_abs}
 use lib.ListN.{get_or}
 use Rattle.numbers.specs.Words.{words}
-use Rattle.run_ops.specs.Layout.{layout}
-use Rattle.run_ops.proofs.Index.{place_in, place_out}
-use Rattle.run_ops.proofs.Cells.{words_after, whole_after, write_unset, write_full, writes}
-use Rattle.run_ops.proofs.write.Goals.{After-entry-n}
+use Rattle.numbers.proofs.Signs.{back, as_returned}
+use Rattle.kernel.specs.File.{write}
+use Rattle.kernel.specs.Machine.{perform}
+use Rattle.kernel.specs.Named.{reason}
+use Rattle.run_ops.specs.States.{state}
+use Rattle.run_ops.specs.Layout.{layout, cell_at}
+use Rattle.run_ops.proofs.States.{stops, given, refused, ends, sticks}
+use Rattle.run_ops.proofs.Cells.{whole_after, write_sticks, writes}
+use Rattle.run_ops.proofs.write.Goals.{After-from}
 use Rattle.run_ops.proofs.write.Goals as goal
 
-pub returns-then-w-ge-NO_WORD : goal.returns-then-w-ge-NO_WORD
-returns-then-w-ge-NO_WORD c =
+-- the stream's place, as the code has it
+is : (c : After-from) → back c.from.result ≡ pos (get_or c.args.machine.now.places c.args.q 0)
+is c = as_returned {z = c.from.result} c.from.type_inv ∙ c.from.ensures
+
+pub returns-in_err-w : goal.returns-in_err-w
+unfolding perform
+returns-in_err-w c =
     let g = c.args in
-    let rs = g.registers.now in
-    (λ d m n. write_unset (layout g.sizes.now g.bases.now m) n d rs g.places.now (words g.output.now) g.p g.q (omega (arith, c.if-w-ge-NO_WORD.true)), c.requires.2)
+    let ws = words g.output.now in (
+      λ d n. sticks (layout g.arrays.now) n (write g.p g.q) d (state g.machine.now ws) c.from_residual.result _ c.from_residual.ensures.1
+          (stops _ (refused _ (c.in_err-w.ensures ws))),
+      c.requires.1,
+    )
 
--- where the stream's count is found: what is written
-module _ (c : After-entry-n) where
-  abbrev written : ℕ
-  written = get_or c.args.registers.now c.args.p 0
-
-  is_set : written < 2 ^ 32
-  is_set = omega (arith, c.if-w-ge-NO_WORD.false)
-
-pub returns-then-place-n : goal.returns-then-place-n
-returns-then-place-n c =
+pub returns-in_err-to : goal.returns-in_err-to
+unfolding reason
+returns-in_err-to c =
     let g = c.args in
-    let out = place_out 35 c.entry-n.ensures c.entry-place.ensures (omega (arith, c.if-place-n.true)) in
-    (λ d m n. write_full (layout g.sizes.now g.bases.now m) n d g.registers.now g.places.now (words g.output.now) g.p g.q (is_set (goal.at.returns-then-place-n c).After-entry-n) out, c.requires.2)
+    let e = layout g.arrays.now in
+    let ws = words g.output.now in
+    let at = refused _ (c.in_err-to.ensures.0 ∙ ap (cell_at e g.q 35) (is (goal.at.returns-in_err-to c).After-from)) in (
+      λ d n. sticks e n (write g.p g.q) d (state g.machine.now ws) c.from_residual-in_err-to.result _ c.from_residual-in_err-to.ensures.1
+          (write_sticks g.arrays.now d.values g.machine.now g.p g.q g.output.now c.in_ok-w.w (given _ (c.in_ok-w.ensures ws)) _ at),
+      c.requires.1,
+    )
+
+pub overflow_add-machine : goal.overflow_add-machine
+overflow_add-machine c = omega (arith, c.in_ok-to.ensures.1, ap nat_abs (is (goal.at.overflow_add-machine c).After-from))
 
 pub returns : goal.returns
+unfolding reason
 returns c =
-    let done = c.put_word.ensures in
-    let base = c.entry-b in
-    let place = c.entry-place in
     let g = c.args in
-    let k = base.result + place.result in
-    let at = place_in 35 c.entry-n.ensures place.ensures (omega (arith, c.if-place-n.false)) in (
-      λ d m n. writes (layout g.sizes.now g.bases.now m) n d g.registers.now g.places.now (words g.output.now) g.p g.q (is_set (goal.at.returns c).After-entry-n) at base.ensures place.ensures (words_after g.output.now k (written (goal.at.returns c).After-entry-n) (is_set (goal.at.returns c).After-entry-n) done),
-      whole_after g.output.now k (written (goal.at.returns c).After-entry-n) (is_set (goal.at.returns c).After-entry-n) done c.requires.2,
+    let e = layout g.arrays.now in
+    let w = c.in_ok-w.w in
+    let ws = words g.output.now in
+    let at = given _ (c.in_ok-to.ensures.0 ∙ ap (cell_at e g.q 35) (is (goal.at.returns c).After-from)) in
+    let small : w < 2 ^ 32 = omega arith in (
+      λ d n. ends e n (write g.p g.q) d (state g.machine.now ws)
+          (writes g.arrays.now d.values g.machine.now g.p g.q g.output.now w (given _ (c.in_ok-w.ensures ws)) at small c.put_word.ensures),
+      whole_after g.output.now c.in_ok-to.to w small c.put_word.ensures c.requires.1,
     )

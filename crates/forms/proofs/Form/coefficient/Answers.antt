@@ -1,29 +1,15 @@
 -- `forms::Form::coefficient` meets its contract.
-use mathlib.Core.Path.{◌≡◌, refl}
-use native.Mathlib.Omega.{arith}
-use borrow.Author.Rules.{rules}
+use mathlib.Core.Path.{◌≡◌, ◌∙◌}
+use lib.ListN.{get_or}
 use lib.IntN.{pos}
+use Rattle.std.proofs.Common.{arith}
+use Rattle.std.proofs.lemmas.Grind.{common_steps}
+use Rattle.numbers.proofs.Signs.{as_returned}
 use Rattle.forms.specs.Form as F
-use Rattle.forms.specs.Code.{form}
-use Rattle.forms.proofs.Shared.{past_four}
 use Rattle.forms.proofs.Form.coefficient.Goals as goal
 
-pub returns-in-0 : goal.returns-in-0
+pub returns : goal.returns
 unfolding F.coefficient
-returns-in-0 c = rw c.in-0.is (search rules)
-
-pub returns-in-1 : goal.returns-in-1
-unfolding F.coefficient
-returns-in-1 c = rw c.in-1.is (search rules)
-
-pub returns-in-2 : goal.returns-in-2
-unfolding F.coefficient
-returns-in-2 c = rw c.in-2.is (search rules)
-
-pub returns-in-3 : goal.returns-in-3
-unfolding F.coefficient
-returns-in-3 c = rw c.in-3.is (search rules)
-
-pub returns-in_default : goal.returns-in_default
-unfolding F.coefficient
-returns-in_default c = past_four (λ n. pos 0 ≡ F.coefficient n (form c.args.self)) (λ n. refl) c.args.level (omega arith)
+returns c =
+    let e : c.unwrap_or.result ≡ get_or c.args.self.x c.args.level (pos 0) = grind (arith, common_steps) in
+    as_returned {z = c.unwrap_or.result} c.unwrap_or.type_inv ∙ e

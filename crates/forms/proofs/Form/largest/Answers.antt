@@ -1,60 +1,71 @@
--- `forms::Form::largest` meets its contract: the four largest terms and their sums fit.
-use mathlib.Core.Path.{◌≡◌, ap, ◌∙◌}
-use Prim.Native.Nat.{◌^◌}
-use lib.IntN.{◌+ℤ◌}
-use mir.Facts.{to_z-of_z}
+-- `forms::Form::largest` meets its contract: each level's term is as large as it can be, and the sums fit.
+use mathlib.Core.Path.{◌≡◌, sym, ap, ◌∙◌}
+use Prim.Native.Nat.{ℕ, ◌^◌, ◌<◌, ◌≤◌}
+use lib.ListN.{length, get_or, take}
+use lib.IntN.{ℤ, pos, ◌+ℤ◌, +ℤ_assoc, +ℤ_idr}
+use native.Mathlib.Omega.{arith}
+use Rattle.std.proofs.Common.{rules}
+use Rattle.std.proofs.lemmas.List.{length-take, length-map}
 use Rattle.numbers.specs.Bounds.{Small}
-use Rattle.numbers.proofs.Signs.{small_add, sum_back, fits, as_it_is}
-use Rattle.forms.proofs.Shared.{most_of, most_small, largest_sum}
-use Rattle.forms.proofs.Form.largest.Goals.{After-term-d}
+use Rattle.numbers.proofs.Signs.{small_back, as_it_is}
+use Rattle.forms.specs.Form as F
+use Rattle.forms.specs.Code.{loop, loops, no_loop}
+use Rattle.forms.proofs.Shared.{sum_small, sum_fits, sum_back, most_of, most_more, most_small, most_of_all, loop_at}
+use Rattle.forms.proofs.Form.largest.Goals.{After-best-sum}
 use Rattle.forms.proofs.Form.largest.Goals as goal
 
--- the results of the four calls
-module _ (c : After-term-d) where
-  is0 : c.term-a.result ≡ most_of c.args.self.x0 c.args.ls.l0 0 c.args.ls.count
-  is0 = c.term-a.ensures ∙ ap (λ z. most_of z c.args.ls.l0 0 c.args.ls.count) (as_it_is c.requires.0.x0_small tt)
+-- what the call of a level gave
+module _ (c : After-best-sum) where
+  abbrev level : ℕ
+  level = c.loop-level.level
 
-  small0 : Small (2 ^ 50) c.term-a.result
-  small0 = rw is0 (most_small 0 c.args.ls.count c.requires.0.x0_small c.requires.1.turns0)
+  abbrev term : ℤ
+  term = most_of (get_or c.args.self.x level (pos 0)) (loop (get_or c.args.ls.levels level no_loop))
 
-  is1 : c.term-b.result ≡ most_of c.args.self.x1 c.args.ls.l1 1 c.args.ls.count
-  is1 = c.term-b.ensures ∙ ap (λ z. most_of z c.args.ls.l1 1 c.args.ls.count) (as_it_is c.requires.0.x1_small tt)
+  four : level < 4
+  four = let h = c.loop-level-test.true in omega (arith, c.min-level-end.ensures)
 
-  small1 : Small (2 ^ 50) c.term-b.result
-  small1 = rw is1 (most_small 1 c.args.ls.count c.requires.0.x1_small c.requires.1.turns1)
+  around : level < c.args.ls.count
+  around = let h = c.loop-level-test.true in omega (arith, c.min-level-end.ensures)
 
-  is2 : c.term-c.result ≡ most_of c.args.self.x2 c.args.ls.l2 2 c.args.ls.count
-  is2 = c.term-c.ensures ∙ ap (λ z. most_of z c.args.ls.l2 2 c.args.ls.count) (as_it_is c.requires.0.x2_small tt)
+  term_is : c.best-sum.result ≡ term
+  unfolding most_of
+  term_is = c.best-sum.ensures ∙ ap (λ z. most_of z (loop (get_or c.args.ls.levels level no_loop))) (as_it_is (c.requires.0.x_small level) tt)
 
-  small2 : Small (2 ^ 50) c.term-c.result
-  small2 = rw is2 (most_small 2 c.args.ls.count c.requires.0.x2_small c.requires.1.turns2)
+  small : Small (2 ^ 50) c.best-sum.result
+  small = rw term_is (most_small (c.requires.0.x_small level) (c.requires.1.turns level four around))
 
-  is3 : c.term-d.result ≡ most_of c.args.self.x3 c.args.ls.l3 3 c.args.ls.count
-  is3 = c.term-d.ensures ∙ ap (λ z. most_of z c.args.ls.l3 3 c.args.ls.count) (as_it_is c.requires.0.x3_small tt)
+pub loop-level-init : goal.loop-level-init
+unfolding F.most
+loop-level-init c =
+    let k = c.requires.0.k_small in
+    record { sum_is = as_it_is k tt ∙ sym (+ℤ_idr c.args.self.k); small = small_back k }
 
-  small3 : Small (2 ^ 50) c.term-d.result
-  small3 = rw is3 (most_small 3 c.args.ls.count c.requires.0.x3_small c.requires.1.turns3)
+pub overflow_add-sum : goal.overflow_add-sum
+overflow_add-sum c = rw (as_it_is (small c) tt) (sum_fits (level c) c.loop-level.invariant.small (small c) (four c))
 
-pub overflow_add-result : goal.overflow_add-result
-overflow_add-result c = fits (sum_back (small2 c) (small3 c)) tt
-
-pub overflow_add-result-2 : goal.overflow_add-result-2
-overflow_add-result-2 c = fits (sum_back (small1 c) (sum_back (small2 c) (small3 c))) tt
-
-pub overflow_add-result-3 : goal.overflow_add-result-3
-overflow_add-result-3 c = fits (sum_back (small0 c) (sum_back (small1 c) (sum_back (small2 c) (small3 c)))) tt
-
-pub overflow_add-result-4 : goal.overflow_add-result-4
-overflow_add-result-4 c =
-    fits (sum_back c.requires.0.k_small (sum_back (small0 (goal.at.overflow_add-result-4 c).After-term-d) (sum_back (small1 (goal.at.overflow_add-result-4 c).After-term-d) (sum_back (small2 (goal.at.overflow_add-result-4 c).After-term-d) (small3 (goal.at.overflow_add-result-4 c).After-term-d))))) tt
+pub loop-level-preserved : goal.loop-level-preserved
+loop-level-preserved c =
+    let s = c.args in
+    let i = level c in
+    let inv = c.loop-level.invariant in
+    let xs : length s.self.x ≡ 4 = search rules in
+    let long : length s.ls.levels ≡ 4 = search rules in
+    let there : i < length (loops s.ls) = rw (length-take, length-map) (omega (arith, four c, around c)) in
+    let more = most_more s.self.x (loops s.ls) i (loop no_loop) (omega (arith, four c)) there in
+    rw (as_it_is (small c) tt, sum_back i inv.small (small c) (four c))
+    (record {
+      sum_is =
+          (λ j. inv.sum_is j +ℤ term_is c j) ∙ +ℤ_assoc s.self.k (F.most (take i s.self.x) (loops s.ls)) (term c)
+          ∙ sym (ap (λ z. s.self.k +ℤ z) (more ∙ ap (λ l. F.most (take i s.self.x) (loops s.ls) +ℤ most_of (get_or s.self.x i (pos 0)) l) (loop_at s.ls i (around c))));
+      small = sum_small i inv.small (small c);
+    })
 
 pub returns : goal.returns
+unfolding F.largest
 returns c =
-    let f = c.args.self in
-    let k = c.requires.0.k_small in
-    let s2 = small_add (small2 (goal.at.returns c).After-term-d) (small3 (goal.at.returns c).After-term-d) in
-    let s1 = small_add (small1 (goal.at.returns c).After-term-d) s2 in
-    let s0 = small_add (small0 (goal.at.returns c).After-term-d) s1 in
-    simp
-    (to_z-of_z, fits k tt, fits (small0 (goal.at.returns c).After-term-d) tt, fits (small1 (goal.at.returns c).After-term-d) tt, fits (small2 (goal.at.returns c).After-term-d) tt, fits (small3 (goal.at.returns c).After-term-d) tt, fits s2 tt, fits s1 tt, fits s0 tt, fits (small_add k s0) tt)
-    ((λ i. f.k +ℤ (is0 (goal.at.returns c).After-term-d i +ℤ (is1 (goal.at.returns c).After-term-d i +ℤ (is2 (goal.at.returns c).After-term-d i +ℤ is3 (goal.at.returns c).After-term-d i)))) ∙ largest_sum f c.args.ls)
+    let s = c.args in
+    let long : length s.ls.levels ≡ 4 = search rules in
+    let past = c.loop-level-test.false in
+    let all : length (loops s.ls) ≤ c.loop-level.level = rw (length-take, length-map) (omega (arith, c.min-level-end.ensures)) in
+    c.loop-level.invariant.sum_is ∙ ap (λ z. s.self.k +ℤ z) (most_of_all s.self.x (loops s.ls) c.loop-level.level all)

@@ -8,11 +8,11 @@ use Rattle.forms.proofs.Form.moved_by.Goals as goal
 
 pub plus_times-k-requires : goal.plus_times-k-requires
 plus_times-k-requires c =
-    let x_small = term_small c.args.level c.requires.0 c.requires.1 c.coefficient-x.ensures in
+    let x_small = term_small c.args.level c.requires.0 c.requires.1 c.coefficient.ensures in
     (small_back c.requires.0.k_small, (small_back x_small, small_back c.requires.1))
 
 pub returns : goal.returns
 unfolding F.moved_by
 returns c =
-    let k_is = plus_term c.args.level c.requires.0 c.requires.1 c.coefficient-x.ensures {r = c.plus_times-k.result} c.plus_times-k.type_inv c.plus_times-k.ensures in
+    let k_is = plus_term c.args.level c.requires.0 c.requires.1 c.coefficient.ensures {r = c.plus_times-k.result} c.plus_times-k.type_inv c.plus_times-k.ensures in
     c.with_k.ensures ∙ (λ i. record { k = k_is i; x = (form c.args.self).x })

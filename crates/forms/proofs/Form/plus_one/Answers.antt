@@ -2,16 +2,13 @@
 use native.Mathlib.Omega.{arith}
 use lib.IntN.{pos}
 use Rattle.numbers.specs.Bounds.{Small}
-use Rattle.numbers.proofs.Signs.{sum_back, back_sum, fits}
+use Rattle.numbers.proofs.Signs.{back_sum}
 use Rattle.forms.specs.Form as F
 use Rattle.forms.specs.Code.{form}
 use Rattle.forms.proofs.Form.plus_one.Goals as goal
 
 one : Small 1 (pos 1)
 one = record { abs = omega arith }
-
-pub overflow_add-self : goal.overflow_add-self
-overflow_add-self c = fits (sum_back c.requires.k_small one) tt
 
 pub returns : goal.returns
 unfolding F.plus_one

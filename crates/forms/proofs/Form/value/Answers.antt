@@ -1,79 +1,55 @@
--- `forms::Form::value` meets its contract: the products and the sums fit.
-use lib.IntN.{+ℤ_idr}
-use mir.Facts.{to_z-of_z}
-use Rattle.numbers.proofs.Signs.{small_add, small_mul, sum_back, product_back, fits}
+-- `forms::Form::value` meets its contract: each product and each sum fits.
+use mathlib.Core.Path.{◌≡◌, sym, ap, ◌∙◌}
+use lib.ListN.{length, get_or, take}
+use lib.IntN.{pos, ◌+ℤ◌, ◌*ℤ◌, +ℤ_assoc, +ℤ_idr}
+use native.Mathlib.Omega.{arith}
+use Rattle.std.proofs.Common.{rules}
+use Rattle.std.proofs.lemmas.List.{take_all}
+use Rattle.numbers.proofs.Signs.{small_mul, small_back, product_back, back_product, fits, as_it_is}
 use Rattle.forms.specs.Form as F
+use Rattle.forms.proofs.Shared.{sum_small, sum_fits, sum_back, terms_more}
 use Rattle.forms.proofs.Form.value.Goals as goal
 
-pub overflow_mul-result : goal.overflow_mul-result
-overflow_mul-result c = let p = c.requires in fits (product_back p.0.x0_small p.1.0) tt
+pub loop-level-init : goal.loop-level-init
+unfolding F.terms
+loop-level-init c =
+    let k = c.requires.0.k_small in
+    record { sum_is = as_it_is k tt ∙ sym (+ℤ_idr c.args.self.k); small = small_back k }
 
-pub overflow_mul-result-2 : goal.overflow_mul-result-2
-overflow_mul-result-2 c = let p = c.requires in fits (product_back p.0.x1_small p.1.1.0) tt
+pub overflow_mul-sum : goal.overflow_mul-sum
+overflow_mul-sum c =
+    let i = c.loop-level.level in
+    fits (product_back (c.requires.0.x_small i) (c.requires.1 i)) tt
 
-pub overflow_mul-result-3 : goal.overflow_mul-result-3
-overflow_mul-result-3 c = let p = c.requires in fits (product_back p.0.x2_small p.1.1.1.0) tt
+pub overflow_add-sum : goal.overflow_add-sum
+overflow_add-sum c =
+    let i = c.loop-level.level in
+    rw (back_product (c.requires.0.x_small i) (c.requires.1 i) tt tt tt)
+    (sum_fits i c.loop-level.invariant.small (small_mul (c.requires.0.x_small i) (c.requires.1 i)) c.loop-level-test.true)
 
-pub overflow_mul-result-4 : goal.overflow_mul-result-4
-overflow_mul-result-4 c = let p = c.requires in fits (product_back p.0.x3_small p.1.1.1.1) tt
-
-pub overflow_add-result : goal.overflow_add-result
-overflow_add-result c =
-    let p = c.requires in
-    fits (sum_back (product_back p.0.x2_small p.1.1.1.0) (product_back p.0.x3_small p.1.1.1.1)) tt
-
-pub overflow_add-result-2 : goal.overflow_add-result-2
-overflow_add-result-2 c =
-    let p = c.requires in
-    let s2 = sum_back (product_back p.0.x2_small p.1.1.1.0) (product_back p.0.x3_small p.1.1.1.1) in
-    fits (sum_back (product_back p.0.x1_small p.1.1.0) s2) tt
-
-pub overflow_add-result-3 : goal.overflow_add-result-3
-overflow_add-result-3 c =
-    let p = c.requires in
-    let s2 = sum_back (product_back p.0.x2_small p.1.1.1.0) (product_back p.0.x3_small p.1.1.1.1) in
-    let s1 = sum_back (product_back p.0.x1_small p.1.1.0) s2 in
-    fits (sum_back (product_back p.0.x0_small p.1.0) s1) tt
-
-pub overflow_add-result-4 : goal.overflow_add-result-4
-overflow_add-result-4 c =
-    let p = c.requires in
-    let s2 = sum_back (product_back p.0.x2_small p.1.1.1.0) (product_back p.0.x3_small p.1.1.1.1) in
-    let s1 = sum_back (product_back p.0.x1_small p.1.1.0) s2 in
-    let s0 = sum_back (product_back p.0.x0_small p.1.0) s1 in
-    fits (sum_back p.0.k_small s0) tt
+pub loop-level-preserved : goal.loop-level-preserved
+loop-level-preserved c =
+    let i = c.loop-level.level in
+    let s = c.args in
+    let inv = c.loop-level.invariant in
+    let x = c.requires.0.x_small i in
+    let v = c.requires.1 i in
+    let four : length s.self.x ≡ 4 = search rules in
+    let here = c.loop-level-test.true in
+    let t = get_or s.self.x i (pos 0) *ℤ get_or s.counters i (pos 0) in
+    rw (back_product x v tt tt tt, sum_back i inv.small (small_mul x v) here)
+    (record {
+      sum_is =
+          ap (λ z. z +ℤ t) inv.sum_is ∙ +ℤ_assoc s.self.k (F.terms (take i s.self.x) s.counters) t
+          ∙ sym (ap (λ z. s.self.k +ℤ z) (terms_more s.self.x s.counters i (omega arith)));
+      small = sum_small i inv.small (small_mul x v);
+    })
 
 pub returns : goal.returns
-unfolding F.value F.terms
+unfolding F.value
 returns c =
-    let p = c.requires in
-    let f = p.0 in
-    let q = p.1 in
-    let m0 = small_mul f.x0_small q.0 in
-    let m1 = small_mul f.x1_small q.1.0 in
-    let m2 = small_mul f.x2_small q.1.1.0 in
-    let m3 = small_mul f.x3_small q.1.1.1 in
-    let s2 = small_add m2 m3 in
-    let s1 = small_add m1 s2 in
-    let s0 = small_add m0 s1 in
-    simp (
-      to_z-of_z,
-      +ℤ_idr,
-      fits f.k_small tt,
-      fits f.x0_small tt,
-      fits f.x1_small tt,
-      fits f.x2_small tt,
-      fits f.x3_small tt,
-      fits q.0 tt,
-      fits q.1.0 tt,
-      fits q.1.1.0 tt,
-      fits q.1.1.1 tt,
-      fits m0 tt,
-      fits m1 tt,
-      fits m2 tt,
-      fits m3 tt,
-      fits s0 tt,
-      fits s1 tt,
-      fits s2 tt,
-      fits (small_add f.k_small s0) tt,
-    )
+    let s = c.args in
+    let four : length s.self.x ≡ 4 = search rules in
+    let past = c.loop-level-test.false in
+    let all = take_all c.loop-level.level s.self.x (omega arith) in
+    c.loop-level.invariant.sum_is ∙ ap (λ xs. s.self.k +ℤ F.terms xs s.counters) all

@@ -20,10 +20,6 @@ module _ (s : Start) where
   number_small : Small (2 ^ 17) (pos (s.args.self.passes - 1))
   number_small = let h = s.requires.few in record { abs = omega arith }
 
-pub overflow_mul-result : goal.overflow_mul-result
-overflow_mul-result c =
-    rw (number (goal.at.overflow_mul-result c).Start) (fits (small_mul (small_back c.requires.step_small) (number_small (goal.at.overflow_mul-result c).Start)) tt)
-
 pub overflow_add-result : goal.overflow_add-result
 overflow_add-result c =
     rw (number (goal.at.overflow_add-result c).Start) (fits (sum_back c.requires.first_small (small_mul (small_back c.requires.step_small) (number_small (goal.at.overflow_add-result c).Start))) tt)

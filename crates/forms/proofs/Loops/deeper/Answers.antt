@@ -1,28 +1,35 @@
--- `forms::Loops::deeper` meets its contract, level by level.
+-- `forms::Loops::deeper` meets its contract: the new loop stands at the end, and the levels below it are as they were.
 use mathlib.Core.Path.{◌≡◌, refl}
+use mathlib.Core.Bool.{Bool, true, false}
+use mathlib.Core.List.{map}
+use lib.ListN.{length, get_or, set}
+use lib.Dec.{ltb}
+use Prim.Native.Nat.{ℕ, ◌+◌, ◌<◌}
 use native.Mathlib.Omega.{arith}
+use borrow.Author.Tests.{ltb-true, ltb-false}
+use Rattle.std.proofs.Common.{rules}
+use Rattle.std.proofs.lemmas.List.{take_more_set, map-set, length-map, get_or-set_same, get_or-set_other}
+use Rattle.forms.specs.Code.{loop, Turns, no_loop}
+use Rattle.forms.proofs.Loops.deeper.Goals.{Start}
 use Rattle.forms.proofs.Loops.deeper.Goals as goal
 
-pub returns-in-0 : goal.returns-in-0
-returns-in-0 c =
-    let e = c.in-0.is in
-    let p = c.requires in
-    (rw e refl, record { turns0 = λ h. p.2; turns1 = λ h. absurd (omega (arith, e, h)); turns2 = λ h. absurd (omega (arith, e, h)); turns3 = λ h. absurd (omega (arith, e, h)) }, refl)
+module _ (c : Start) where
+  there : c.args.self.count < length c.args.self.levels
+  there = let h = c.requires.0 in let four : length c.args.self.levels ≡ 4 = search rules in omega arith
 
-pub returns-in-1 : goal.returns-in-1
-returns-in-1 c =
-    let e = c.in-1.is in
-    let p = c.requires in
-    (rw e refl, record { turns0 = λ h. p.1.turns0 (omega (arith, e)); turns1 = λ h. p.2; turns2 = λ h. absurd (omega (arith, e, h)); turns3 = λ h. absurd (omega (arith, e, h)) }, refl)
+  turns : (level : ℕ) → level < 4 → level < c.args.self.count + 1 → Turns (get_or (set c.args.self.levels c.args.self.count c.args.l) level no_loop)
+  turns level h k = by (ltb level c.args.self.count) refl
+    where
+      by : (t : Bool) → ltb level c.args.self.count ≡ t → Turns (get_or (set c.args.self.levels c.args.self.count c.args.l) level no_loop)
+      by true e =
+          let m = ltb-true level c.args.self.count e in
+          rw (get_or-set_other c.args.self.levels c.args.self.count level c.args.l no_loop (λ q. omega arith)) (c.requires.1.turns level h m)
+      by false e =
+          let m : level ≡ c.args.self.count = omega (arith, ltb-false level c.args.self.count e) in
+          rw (m, get_or-set_same c.args.self.levels c.args.self.count c.args.l no_loop there) c.requires.2
 
-pub returns-in-2 : goal.returns-in-2
-returns-in-2 c =
-    let e = c.in-2.is in
-    let p = c.requires in
-    (rw e refl, record { turns0 = λ h. p.1.turns0 (omega (arith, e)); turns1 = λ h. p.1.turns1 (omega (arith, e)); turns2 = λ h. p.2; turns3 = λ h. absurd (omega (arith, e, h)) }, refl)
-
-pub returns-in_default : goal.returns-in_default
-returns-in_default c =
-    let p = c.requires in
-    let e : c.args.self.count ≡ 3 = omega (arith, p.0) in
-    (rw e refl, record { turns0 = λ h. p.1.turns0 (omega (arith, e)); turns1 = λ h. p.1.turns1 (omega (arith, e)); turns2 = λ h. p.1.turns2 (omega (arith, e)); turns3 = λ h. p.2 }, refl)
+pub returns : goal.returns
+returns c =
+    let s = c.args in
+    let e = take_more_set (map loop s.self.levels) s.self.count (loop s.l) (rw length-map (there c)) in
+    (rw (map-set loop s.self.levels s.self.count s.l) e, record { turns = turns c }, refl)

@@ -1,9 +1,0 @@
--- `check_ledger::merge` meets its contract.
-use Rattle.check_ledger.proofs.Tests.{merged_right, merged_bounded}
-use Rattle.check_ledger.proofs.merge.Goals as goal
-
-pub returns : goal.returns
-returns c =
-    let t = c.take_positions.ensures in
-    let k = c.keep_buffers.ensures in
-    (merged_right t k, λ n f h. merged_bounded t k f h)

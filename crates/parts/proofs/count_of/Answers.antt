@@ -1,7 +1,0 @@
--- `parts::count_of` meets its contract.
-use Rattle.kernel.specs.File.{numbers}
-use Rattle.parts.proofs.count_of.Goals as goal
-
-pub returns : goal.returns
-unfolding numbers
-returns c = c.number.ensures
