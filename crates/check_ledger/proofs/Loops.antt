@@ -20,19 +20,30 @@ use Rattle.std.proofs.iter.Yields.{fronts}
 use Rattle.std.proofs.lemmas.Iterator.{zips, YieldsList-from_slice, YieldsList-from_zip}
 use Rattle.std.proofs.lemmas.Iterator.Search.{all_from_yields_List}
 use Rattle.numbers.specs.Lists.{alike}
+use Rattle.numbers.proofs.Rows.{test_goes_on, test_fails, test_passes}
 
 -- as long as what counts
 pub long_view : {A B : Type 0} (v : A → B) (n : ℕ) (p : List A) → n ≤ length p → length (map v (take n p)) ≡ n
 long_view v n p l = length-map (take n p) v ∙ length-take-le n p l
 
--- ---- two rows of one length, tested in pairs
+-- ---- two rows of one length, tested in pairs: cell by cell, from the first on
 
 pub zipped : {A B C : Type 0} (t : B → C → Bool) {D : Type 0} (v : A → B) (w : D → C) (xs : List A) (ys : List D) → length xs ≡ length ys → list_all (λ p. t (v p.0) (w p.1)) (zip xs ys) ≡ alike t (map v xs) (map w ys)
-unfolding alike
-zipped t v w [] [] e = refl
+zipped t v w [] [] e = sym (test_passes t [] [] 0 (omega arith) (omega arith) refl)
 zipped t v w [] (y ∷ ys) e = absurd (omega arith)
 zipped t v w (x ∷ xs) [] e = absurd (omega arith)
-zipped t v w (x ∷ xs) (y ∷ ys) e = ap (λ b. t (v x) (w y) && b) (zipped t v w xs ys (omega arith))
+zipped {A} {B} {C} t {D} v w (x ∷ xs) (y ∷ ys) e = by (t (v x) (w y)) refl (zipped t v w xs ys (omega arith))
+  where
+    others : Bool
+    others = list_all (λ p. t (v p.0) (w p.1)) (zip xs ys)
+
+    by : (b : Bool) → t (v x) (w y) ≡ b → others ≡ alike t (map v xs) (map w ys) → t (v x) (w y) && others ≡ alike t (v x ∷ map v xs) (w y ∷ map w ys)
+    by true q rest =
+        ap (λ b. b && others) q
+        ∙ rest
+        ∙ sym (test_goes_on t (v x ∷ map v xs) (w y ∷ map w ys) 0 (v x) (w y) (omega arith) (omega arith) refl q)
+    by false q rest =
+        ap (λ b. b && others) q ∙ sym (test_fails t (v x ∷ map v xs) (w y ∷ map w ys) 0 (v x) (w y) (omega arith) (omega arith) refl q)
 
 -- the chain that does so: `all` over both rows at once
 pub alike_by_all : {A B C D F : Type 0} {g : Mut F ((Bor A × Bor D) × Unit {0}) Bool} {f : F} {r : Bool} (s u : Zip (Iter A) (Iter D)) (t : B → C → Bool) (v : A → B) (w : D → C) (xs : List A) (ys : List D)

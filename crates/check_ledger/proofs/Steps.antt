@@ -52,6 +52,13 @@ module _ (a d : ℕ) (l : Ledger) where
   unfolding ledger L.hold
   hold_right b h = λ i. record { positions = map form (take a l.positions); buffers = view_set held d l.buffers b h i }
 
+  -- at an index that is reckoned in any way
+  pub held_at : (b : ℕ) {i : ℕ} (h : Option Held) → i ≡ b → ledger a d (record { positions = l.positions; buffers = set l.buffers i h }) ≡ L.hold b (held h) (ledger a d l)
+  held_at b {i} h e = hold_right i h ∙ ap (λ i. L.hold i (held h) (ledger a d l)) e
+
+  pub holds_at : (b : ℕ) {i : ℕ} → i ≡ b → b < d → held (get_or l.buffers i None) ≡ L.holding b (ledger a d l)
+  holds_at b e h = ap (λ i. held (get_or l.buffers i None)) e ∙ sym (holding_right b h)
+
   -- what a fill holds
   pub filled : (K : File.Kernel) (q : ℕ) {f : Form} → form f ≡ F.along (File.first_of (File.array K q)) (File.step_of (File.array K q)) (form (get_or l.positions q no_form))
       → q < a → q < length l.positions → held (Some (record { array = q; index = f })) ≡ some (L.held q (L.next_index K q (ledger a d l)))

@@ -127,6 +127,8 @@ impl Ledger {
     }
 
     // After an if the ledger of its second branch takes the positions of the first, and of each buffer what both branches have equal, else nothing.
+    // In line, as `check_take::leave_if` is.
+    #[inline(always)]
     pub fn merge(&mut self, first: &Ledger, a: usize, b: usize, around: Loops)
         requires { (a ≤ 8) × (b ≤ 16) }
         ensures { (ledger a b self.new ≡ L.merged (loops around) (ledger a b first.now) (ledger a b self.old)) × ((n : ℕ) → Bounded n first.now → Bounded n self.old → Bounded n self.new) }

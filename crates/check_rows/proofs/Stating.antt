@@ -1,6 +1,6 @@
 -- Rows of a derivation, one after another, as the ledger that they state.
 use Prim.Native.Nat.{ℕ, suc, ◌+◌, ◌^◌, ◌≤◌, ◌<◌}
-use mathlib.Core.Path.{◌≡◌, sym, ap, subst, ◌∙◌}
+use mathlib.Core.Path.{◌≡◌, refl, sym, ap, subst, ◌∙◌}
 use mathlib.Core.Bool.{Bool, true, false, cond}
 use mathlib.Core.List.{List, [], ◌∷◌, ◌++◌, map}
 use mathlib.Core.Option.{none, some}
@@ -25,13 +25,13 @@ use Rattle.parts.specs.Tables.{rows}
 use Rattle.parts.proofs.Records.{count_is}
 use Rattle.kernel.specs.Derivation.{row_held, row_count, hold_rows, stated}
 use Rattle.check_ledger.specs.declared.Held.{Held}
-use Rattle.check_ledger.specs.View.{held, no_form}
-use Rattle.check_ledger.proofs.Rows.{all_set}
-use Rattle.check_ledger.proofs.Bounds.{none_within, within_seen}
+use Rattle.check_ledger.specs.View.{held, zeros, no_form}
+use Rattle.check_ledger.proofs.Rows.{all_set, all_alike}
+use Rattle.check_ledger.proofs.Bounds.{none_within, within_seen, zero_within}
 use Rattle.check_ledger.proofs.Loops.{Written, view_more, written_more}
 use Rattle.check_rows.proofs.Rows.{drop_take}
 use Rattle.check_rows.specs.View.{SmallForms}
-use Rattle.check_rows.specs.Changes.{SmallHeld}
+use Rattle.check_rows.specs.Changes.{SmallHeld, Stated}
 
 -- ---- one buffer row
 
@@ -106,3 +106,12 @@ module _ (K : Kernel) (c : Derivation.Place) (rs : List Rec) (rule a b : ℕ) (d
 
       second : drop (length K.arrays) (hold_rows K c) ≡ take b (drop (rule + 1 + a) rs)
       second = (λ i. drop (u i) (held_rows i)) ∙ drop_take a b (drop (suc rule) rs) ∙ ap (take b) (drop-drop a (suc rule) rs ∙ ap (λ n. drop n rs) after)
+
+-- ---- a ledger to state them into
+
+pub zeros_stated : Stated zeros
+zeros_stated = record {
+  whole = (refl, refl);
+  at_position = all_alike (Within (2 ^ 20) (2 ^ 20)) 8 _ no_form none_within (zero_within refl);
+  at_buffer = all_alike SmallHeld 16 None None none_small none_small;
+}

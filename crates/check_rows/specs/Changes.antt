@@ -1,5 +1,5 @@
 -- What becomes of a form when the counter of a level is changed; and a ledger that hold rows state: its forms are those of a file.
-use Rattle.std.specs.Prelude.{ℕ, ◌^◌, ◌≡◌, get_or, Option, Some, None}
+use Rattle.std.specs.Prelude.{ℕ, ◌^◌, ◌≡◌, length, get_or, Option, Some, None}
 use Rattle.forms.specs.Form as F
 use Rattle.forms.specs.Code.{Within}
 use Rattle.check_ledger.specs.declared.Held.{Held}
@@ -23,5 +23,6 @@ SmallHeld buffer = (h : Held) → buffer ≡ Some h → Within (2 ^ 20) (2 ^ 20)
 
 -- a ledger of which every form is as small as those of a file
 pub record Stated (rows : Ledger) : Type 0 where
+  pub whole : (length rows.positions ≡ 8) × (length rows.buffers ≡ 16)
   pub at_position : (q : ℕ) → Within (2 ^ 20) (2 ^ 20) (get_or rows.positions q no_form)
   pub at_buffer : (b : ℕ) → SmallHeld (get_or rows.buffers b None)

@@ -1,10 +1,10 @@
 // Hold rows: whether they fit, the ledger that they state, and, with a counter put or moved in them, whether they are true and what they leave.
 #![tactic(auto)]
 
-ghost use Rattle.std.specs.Prelude.{◌≡◌, ◌&&◌, map, ℕ, ◌+◌, ◌^◌, ◌≤◌, eqb, get_or, take, drop, None};
+ghost use Rattle.std.specs.Prelude.{◌≡◌, ◌&&◌, map, ℕ, ◌+◌, ◌^◌, ◌≤◌, eqb, take, drop};
 ghost use Rattle.numbers.specs.Lists.{alike};
 ghost use Rattle.forms.specs.Form as F;
-ghost use Rattle.forms.specs.Code.{form, loops, Within};
+ghost use Rattle.forms.specs.Code.{loops};
 ghost use Rattle.kernel.specs.File as File;
 ghost use Rattle.kernel.specs.Ledger as L;
 ghost use Rattle.kernel.specs.Derivation as Derivation;
@@ -75,37 +75,42 @@ fn row_held(r: Rec) -> Option<Held>
     })
 }
 
-// The positions that n rows from record `from` on state.
-fn positions(records: RecordTable, from: usize, n: usize) -> [Form; 8]
-    requires { (from + n ≤ records.part.count) × (n ≤ 8) × SmallForms (rows records) }
-    ensures { (map form (take n result) ≡ map File.form (take n (drop from (rows records.entry)))) × ((q : ℕ) → Within (2 ^ 20) (2 ^ 20) (get_or result q View.no_form)) }
+// The first n positions of a ledger become those that rows from record `from` on state.
+fn positions(records: RecordTable, from: usize, n: usize, l: &mut Ledger)
+    requires { (from + n ≤ records.part.count) × (n ≤ 8) × SmallForms (rows records) × Stated l.old }
+    ensures { (View.positions_of n l.new ≡ map File.form (take n (drop from (rows records.entry)))) × (l.new.buffers ≡ l.old.buffers) × Stated l.new }
 {
-    let mut positions = [Form::constant(0); 8];
     for i in 0..n {
-        positions[i] = records.record(from + i).form();
+        l.positions[i] = records.record(from + i).form();
     }
-    positions
 }
 
-// What the buffers hold that n rows from record `from` on state.
-fn buffers(records: RecordTable, from: usize, n: usize) -> [Option<Held>; 16]
-    requires { (from + n ≤ records.part.count) × (n ≤ 16) × SmallForms (rows records) }
-    ensures { (map View.held (take n result) ≡ map Derivation.row_held (take n (drop from (rows records.entry)))) × ((b : ℕ) → SmallHeld (get_or result b None)) }
+// The first n buffers of a ledger come to hold what rows from record `from` on state.
+fn buffers(records: RecordTable, from: usize, n: usize, l: &mut Ledger)
+    requires { (from + n ≤ records.part.count) × (n ≤ 16) × SmallForms (rows records) × Stated l.old }
+    ensures { (View.held_of n l.new ≡ map Derivation.row_held (take n (drop from (rows records.entry)))) × (l.new.positions ≡ l.old.positions) × Stated l.new }
 {
-    let mut buffers = [None; 16];
     for i in 0..n {
-        buffers[i] = row_held(records.record(from + i));
+        l.buffers[i] = row_held(records.record(from + i));
     }
-    buffers
 }
 
-// What the hold rows of a for state: a ledger of so many streams and buffers, its forms those of a file.
+// A ledger becomes what the rows after the for at record `rule` of the derivation state, of so many streams and buffers.
+pub fn state(records: RecordTable, rule: usize, arrays: usize, buffers: usize, l: &mut Ledger)
+    requires { (rule + 1 + arrays + buffers ≤ records.part.count) × (arrays ≤ 8) × (buffers ≤ 16) × SmallForms (rows records) × Stated l.old }
+    ensures { FromRows (rows records.entry) rule arrays buffers l.new × Stated l.new }
+{
+    positions(records, rule + 1, arrays, l);
+    self::buffers(records, rule + 1 + arrays, buffers, l);
+}
+
+// What the hold rows of a for state: a ledger, lent, of so many streams and buffers, its forms those of a file.
 #[derive(Clone, Copy)]
-pub struct HoldRows {
-    pub ledger: Ledger,
+pub struct HoldRows<'a> {
+    pub ledger: &'a Ledger,
     pub arrays: usize,
     pub buffers: usize,
-    pub ghost stated: { Stated ledger },
+    pub ghost stated: { Stated ledger.now },
     pub ghost few_arrays: { arrays ≤ 8 },
     pub ghost few_buffers: { buffers ≤ 16 },
 }
@@ -118,28 +123,12 @@ fn row_true(row: Option<Held>, buffer: Option<Held>, change: Change, around: Loo
     check_ledger::row_true(change.held(row), buffer, around)
 }
 
-impl HoldRows {
-    // What the rows after the for at record `rule` of the derivation state, of so many streams and buffers.
-    pub fn after(records: RecordTable, rule: usize, arrays: usize, buffers: usize) -> HoldRows
-        requires { (rule + 1 + arrays + buffers ≤ records.part.count) × (arrays ≤ 8) × (buffers ≤ 16) × SmallForms (rows records) }
-        ensures { FromRows (rows records.entry) rule arrays buffers result.ledger × (result.arrays ≡ arrays) × (result.buffers ≡ buffers) }
-    {
-        let ledger = Ledger {
-            positions: positions(records, rule + 1, arrays),
-            buffers: self::buffers(records, rule + 1 + arrays, buffers),
-        };
-        HoldRows {
-            ledger,
-            arrays,
-            buffers,
-        }
-    }
-
+impl HoldRows<'_> {
     // ---- are they true, so changed, with these loops around
 
     // Whether each position row equals the ledger.
-    fn positions_true(&self, l: &Ledger, change: Change, around: Loops) -> bool
-        ensures { (b : ℕ) → result ≡ L.same_positions (loops around) (L.each (with_change change) (View.ledger self.now.arrays b self.now.ledger)) (View.ledger self.now.arrays b l.now) }
+    fn positions_true(self, l: &Ledger, change: Change, around: Loops) -> bool
+        ensures { (b : ℕ) → result ≡ L.same_positions (loops around) (L.each (with_change change) (View.ledger self.entry.arrays b self.entry.ledger.now)) (View.ledger self.entry.arrays b l.now) }
     {
         self.ledger.positions[..self.arrays]
             .iter()
@@ -148,8 +137,8 @@ impl HoldRows {
     }
 
     // Whether each buffer row is nothing or what its buffer holds.
-    fn buffers_true(&self, l: &Ledger, change: Change, around: Loops) -> bool
-        ensures { result ≡ alike (L.row_true (loops around)) (map (L.each_held (with_change change)) (View.held_of self.now.buffers self.now.ledger)) (View.held_of self.now.buffers l.now) }
+    fn buffers_true(self, l: &Ledger, change: Change, around: Loops) -> bool
+        ensures { result ≡ alike (L.row_true (loops around)) (map (L.each_held (with_change change)) (View.held_of self.entry.buffers self.entry.ledger.now)) (View.held_of self.entry.buffers l.now) }
     {
         self.ledger.buffers[..self.buffers]
             .iter()
@@ -158,8 +147,8 @@ impl HoldRows {
     }
 
     // Whether each position row equals the ledger and each buffer row is nothing or equals it.
-    pub fn are_true(&self, l: &Ledger, change: Change, around: Loops) -> bool
-        ensures { result ≡ L.rows_true (loops around) (L.each (with_change change) (View.ledger self.now.arrays self.now.buffers self.now.ledger)) (View.ledger self.now.arrays self.now.buffers l.now) }
+    pub fn are_true(self, l: &Ledger, change: Change, around: Loops) -> bool
+        ensures { result ≡ L.rows_true (loops around) (L.each (with_change change) (View.ledger self.entry.arrays self.entry.buffers self.entry.ledger.now)) (View.ledger self.entry.arrays self.entry.buffers l.now) }
     {
         self.positions_true(l, change, around) && self.buffers_true(l, change, around)
     }
@@ -167,8 +156,8 @@ impl HoldRows {
     // ---- what they leave, so changed
 
     // The positions of a ledger become those of the rows.
-    fn leave_positions(&self, change: Change, l: &mut Ledger)
-        ensures { (View.positions_of self.now.arrays l.new ≡ map (with_change change) (View.positions_of self.now.arrays self.now.ledger)) × (l.new.buffers ≡ l.old.buffers) × ((n : ℕ) → Bounded n l.old → Bounded n l.new) }
+    fn leave_positions(self, change: Change, l: &mut Ledger)
+        ensures { (View.positions_of self.entry.arrays l.new ≡ map (with_change change) (View.positions_of self.entry.arrays self.entry.ledger.now)) × (l.new.buffers ≡ l.old.buffers) × ((n : ℕ) → Bounded n l.old → Bounded n l.new) }
     {
         for i in 0..self.arrays {
             l.positions[i] = change.form(self.ledger.positions[i]);
@@ -176,8 +165,8 @@ impl HoldRows {
     }
 
     // The buffers of a ledger come to hold what those of the rows hold.
-    fn leave_buffers(&self, change: Change, l: &mut Ledger)
-        ensures { (View.held_of self.now.buffers l.new ≡ map (L.each_held (with_change change)) (View.held_of self.now.buffers self.now.ledger)) × (l.new.positions ≡ l.old.positions) }
+    fn leave_buffers(self, change: Change, l: &mut Ledger)
+        ensures { (View.held_of self.entry.buffers l.new ≡ map (L.each_held (with_change change)) (View.held_of self.entry.buffers self.entry.ledger.now)) × (l.new.positions ≡ l.old.positions) }
     {
         for i in 0..self.buffers {
             l.buffers[i] = change.held(self.ledger.buffers[i]);
@@ -185,8 +174,8 @@ impl HoldRows {
     }
 
     // A ledger becomes that of the rows.
-    pub fn leave(&self, change: Change, l: &mut Ledger)
-        ensures { (View.ledger self.now.arrays self.now.buffers l.new ≡ L.each (with_change change) (View.ledger self.now.arrays self.now.buffers self.now.ledger)) × ((n : ℕ) → Bounded n l.old → Bounded n l.new) }
+    pub fn leave(self, change: Change, l: &mut Ledger)
+        ensures { (View.ledger self.entry.arrays self.entry.buffers l.new ≡ L.each (with_change change) (View.ledger self.entry.arrays self.entry.buffers self.entry.ledger.now)) × ((n : ℕ) → Bounded n l.old → Bounded n l.new) }
     {
         self.leave_positions(change, l);
         self.leave_buffers(change, l);

@@ -12,6 +12,9 @@ use Rattle.kernel.specs.Ledger.{Held, held, Ledger, position, holding, read_step
 use Rattle.kernel.specs.Derivation.{Place, loops, buffer, Rule, same_rule, read_rule, fill_rule, use_rule, move_rule, write_rule, for_rule, if_rule, else_rule, end_rule, no_rule}
 use Rattle.kernel.specs.Check.{something, fits}
 use Rattle.kernel.specs.Named.{misfit}
+use Rattle.kernel.specs.Named as Names
+use Rattle.kernel.specs.declared.codes.NoCode.{NoCode}
+use Rattle.kernel.specs.declared.codes.Rule as Codes
 use Rattle.kernel.specs.declared.refusals.Misfit.{Misfit}
 use Rattle.parts.specs.declared.Counts.{Counts}
 use Rattle.parts.specs.Parts.{kernel}
@@ -21,6 +24,11 @@ use Rattle.check_ledger.specs.View.{ledger, Bounded}
 -- whether a for fits, at this record of the derivation and with so many loops around
 abbrev pub ForFits : (file : List ℕ) → Counts → (rule level : ℕ) → (a s : Rec) → Bool → Type 0
 ForFits file c rule level a s t = (d : Place) → d.rule ≡ rule → length (loops d.opened) ≡ level → t ≡ fits (kernel file c) d for_rule a s
+
+-- the rule that a number is found to be; none where it is no rule's
+abbrev pub meant : Std.Result Codes.Rule NoCode → Rule
+meant (Ok r) = Names.rule r
+meant (Err e) = no_rule
 
 -- the arrays and buffers that the next statements name are there, where one of rules 1 to 6 fits them
 abbrev pub Named : Counts → Rule → (a s : Rec) → Type 0

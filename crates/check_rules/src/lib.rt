@@ -1,7 +1,7 @@
 // A line of the table of rules: whether it fits the next statements of both programs, what it asks of the ledger, and what it makes of it.
 #![tactic(auto)]
 
-ghost use Rattle.std.specs.Prelude.{◌≡◌, ◌&&◌, ◌⊎◌, ℕ, ◌+◌, ◌^◌, ◌<◌, ◌≤◌, eqb, leb};
+ghost use Rattle.std.specs.Prelude.{◌≡◌, ◌&&◌, ◌⊎◌, ℕ, ◌+◌, ◌^◌, ◌<◌, ◌≤◌, eqb, leb, Ok};
 ghost use Rattle.numbers.specs.Words.{between};
 ghost use Rattle.numbers.specs.Result.{need};
 ghost use Rattle.forms.specs.Form as F;
@@ -22,7 +22,7 @@ ghost use Rattle.check_rules.specs.View.{Named, answered};
 
 use check_ledger::{Held, Ledger};
 use forms::{Form, Loops};
-use kernel::codes::{Code, Rule};
+use kernel::codes::{Code, NoCode, Rule};
 use kernel::refusals::Misfit;
 use parts::{ArrayTable, Kernel, Rec};
 
@@ -105,22 +105,23 @@ impl Pair {
         self.codes(Code::If, Code::If) && self.array.p == self.stream.p
     }
 
-    // Every rule but a for.
-    pub fn fits(self, rule: Rule, registers: usize) -> bool
-        requires { (rule ≡ R.For → ⊥) × (registers ≤ 32) }
-        ensures { (K : File.Kernel) (c : Derivation.Place) → K.registers ≡ registers → result ≡ Check.fits K c (Names.rule rule) (rec self.array) (rec self.stream) }
+    // Every rule but a for; a code that is no rule's fits nothing.
+    pub fn fits(self, rule: Result<Rule, NoCode>, registers: usize) -> bool
+        requires { (rule ≡ Ok R.For → ⊥) × (registers ≤ 32) }
+        ensures { (K : File.Kernel) (c : Derivation.Place) → K.registers ≡ registers → result ≡ Check.fits K c (View.meant rule) (rec self.array) (rec self.stream) }
     {
         match rule {
-            Rule::Same => self.same_fits(),
-            Rule::Read => self.item_fits(Code::Load, Code::Read),
-            Rule::Fill => self.fill_fits(registers),
-            Rule::Use => self.use_fits(registers),
-            Rule::Move => self.move_fits(registers),
-            Rule::Write => self.item_fits(Code::Store, Code::Write),
-            Rule::For => unreachable!(),
-            Rule::If => self.if_fits(),
-            Rule::Else => self.codes(Code::Else, Code::Else),
-            Rule::End => self.codes(Code::End, Code::End),
+            Ok(Rule::Same) => self.same_fits(),
+            Ok(Rule::Read) => self.item_fits(Code::Load, Code::Read),
+            Ok(Rule::Fill) => self.fill_fits(registers),
+            Ok(Rule::Use) => self.use_fits(registers),
+            Ok(Rule::Move) => self.move_fits(registers),
+            Ok(Rule::Write) => self.item_fits(Code::Store, Code::Write),
+            Ok(Rule::For) => unreachable!(),
+            Ok(Rule::If) => self.if_fits(),
+            Ok(Rule::Else) => self.codes(Code::Else, Code::Else),
+            Ok(Rule::End) => self.codes(Code::End, Code::End),
+            Err(_) => false,
         }
     }
 
@@ -139,23 +140,23 @@ impl Pair {
     // ---- what a rule asks about
 
     // The stream whose position it asks about.
-    pub fn stream_of(self, rule: Rule) -> usize
-        ensures { result ≡ View.stream_of (Names.rule rule) (rec self.array) (rec self.stream) }
+    pub fn stream_of(self, rule: Result<Rule, NoCode>) -> usize
+        ensures { result ≡ View.stream_of (View.meant rule) (rec self.array) (rec self.stream) }
     {
         match rule {
-            Rule::Read | Rule::Write => self.array.q as usize,
-            Rule::Fill => self.stream.q as usize,
+            Ok(Rule::Read | Rule::Write) => self.array.q as usize,
+            Ok(Rule::Fill) => self.stream.q as usize,
             _ => 0,
         }
     }
 
     // The buffer whose content it asks about.
-    pub fn buffer_of(self, rule: Rule, registers: usize) -> usize
-        requires { (rule ≡ R.Use) ⊎ (rule ≡ R.Move) → registers ≤ self.stream.q }
-        ensures { result ≡ View.buffer_of registers (Names.rule rule) (rec self.stream) }
+    pub fn buffer_of(self, rule: Result<Rule, NoCode>, registers: usize) -> usize
+        requires { (rule ≡ Ok R.Use) ⊎ (rule ≡ Ok R.Move) → registers ≤ self.stream.q }
+        ensures { result ≡ View.buffer_of registers (View.meant rule) (rec self.stream) }
     {
         match rule {
-            Rule::Use | Rule::Move => (self.stream.q as usize) - registers,
+            Ok(Rule::Use | Rule::Move) => (self.stream.q as usize) - registers,
             _ => 0,
         }
     }
@@ -245,14 +246,14 @@ impl Line<'_> {
     pub fn stream_of(self) -> usize
         ensures { result ≡ View.stream_of (Names.rule self.entry.rule) (rec self.entry.pair.array) (rec self.entry.pair.stream) }
     {
-        self.pair.stream_of(self.rule)
+        self.pair.stream_of(Ok(self.rule))
     }
 
     // The buffer whose content it asks about.
     pub fn buffer_of(self) -> usize
         ensures { result ≡ View.buffer_of self.entry.kernel.counts.r (Names.rule self.entry.rule) (rec self.entry.pair.stream) }
     {
-        self.pair.buffer_of(self.rule, self.kernel.counts.r)
+        self.pair.buffer_of(Ok(self.rule), self.kernel.counts.r)
     }
 
     // What it refuses, with this position of its stream and this content of its buffer: 11, 12 or 13.
@@ -300,10 +301,10 @@ fn filled(kernel: Kernel, s: Rec, l: Ledger) -> Ledger
 }
 
 // Whether a rule changes the ledger: all but same and use.
-pub fn steps(rule: Rule) -> bool
-    ensures { result ≡ View.steps (Names.rule rule) }
+pub fn steps(rule: Result<Rule, NoCode>) -> bool
+    ensures { result ≡ View.steps (View.meant rule) }
 {
-    !matches!(rule, Rule::Same | Rule::Use)
+    !matches!(rule, Ok(Rule::Same | Rule::Use))
 }
 
 // The lent ledger becomes what a rule from 1 to 6 makes of it.
@@ -315,11 +316,11 @@ pub fn step(line: Line, l: &mut Ledger)
 }
 
 // How many statements of the array program a rule takes.
-pub fn arrays_taken(rule: Rule) -> usize
-    ensures { result ≡ View.arrays_taken (Names.rule rule) }
+pub fn arrays_taken(rule: Result<Rule, NoCode>) -> usize
+    ensures { result ≡ View.arrays_taken (View.meant rule) }
 {
     match rule {
-        Rule::Fill | Rule::Move => 0,
+        Ok(Rule::Fill | Rule::Move) => 0,
         _ => 1,
     }
 }

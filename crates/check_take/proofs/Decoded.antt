@@ -8,14 +8,14 @@ use Rattle.kernel.specs.Named.{rule, ruled}
 use Rattle.kernel.specs.declared.codes.NoCode.{NoCode}
 use Rattle.kernel.specs.declared.codes.Rule.{Rule}
 use Rattle.kernel.specs.declared.refusals.Misfit.TheVariants.{DoesNotFit}
+use Rattle.check_rules.specs.View as Rules
 use Rattle.check_take.specs.declared.Place.{Place}
 use Rattle.check_take.specs.declared.Refused.{Refused}
 use Rattle.check_take.specs.View.{rule_or, refused}
 
 -- what it is to the definitions
 abbrev pub meant : Result Rule NoCode → Derivation.Rule
-meant (Ok r) = rule r
-meant (Err e) = Derivation.no_rule
+meant = Rules.meant
 
 pub decoded : (w : ℕ) → Derivation.rule w ≡ meant (ruled w)
 unfolding Derivation.rule ruled rule
@@ -31,6 +31,13 @@ decoded (suc (suc (suc (suc (suc (suc (suc (suc zero)))))))) = refl
 decoded (suc (suc (suc (suc (suc (suc (suc (suc (suc zero))))))))) = refl
 decoded (suc (suc (suc (suc (suc (suc (suc (suc (suc (suc zero)))))))))) = refl
 decoded (suc (suc (suc (suc (suc (suc (suc (suc (suc (suc (suc n))))))))))) = refl
+
+-- another rule
+pub no_other : {r q : Rule} → (r ≡ q → ⊥) → ◌≡◌ {A = Result Rule NoCode} (Ok r) (Ok q) → ⊥
+no_other {r} {q} n e = n same
+  where
+    same : r ≡ q
+    same = cc
 
 -- as the code hands it on
 pub decoded_by : (at : Place) (t : Result Rule NoCode) (r : Result Rule Refused) {P : Rule → Type 0} {Q : NoCode → Type 0} → MatchResult t P Q → ((x : Rule) → P x → r ≡ Ok x) → ((e : NoCode) → Q e → r ≡ Err (refused at DoesNotFit)) → r ≡ rule_or at t

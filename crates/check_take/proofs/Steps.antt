@@ -4,6 +4,8 @@ use mathlib.Core.Path.{◌≡◌, refl, sym, ap, subst, ◌∙◌}
 use mathlib.Core.List.{List}
 use Rattle.std.proofs.Common as Std
 use Rattle.std.proofs.Common.{Ok, Err}
+use Rattle.std.specs.Result.{IsErrAnd}
+use Rattle.std.proofs.lemmas.Result.{err_from_is_err_and}
 use Rattle.numbers.specs.Result.{ok, ◌>>=◌}
 use Rattle.forms.specs.Form.{Loop}
 use Rattle.kernel.specs.Derivation as Derivation
@@ -19,11 +21,23 @@ use Rattle.check_ledger.specs.View.{ledger}
 use Rattle.check_rules.specs.declared.Pair.{Pair}
 use Rattle.check_rules.specs.View.{answered, stepped, arrays_taken, Steps}
 use Rattle.check_take.specs.declared.Place.{Place}
+use Rattle.check_take.specs.declared.Refused.{Refused}
 use Rattle.check_take.specs.View.{Reached, held_by, due, refused, with_ledger, further, Next, AtRule, Refuses, TakenPlain, ReadsOn, Onward}
 use Rattle.check_take.proofs.Came.{refuses, same_place}
 use Rattle.check_take.proofs.Comes.{here, Comes}
-use Rattle.check_take.proofs.Taking.{stopped, went_on}
+use Rattle.check_take.proofs.Taking.{no_rule, stopped, went_on}
 use Rattle.check_take.proofs.Going.{onward, one_at_most}
+
+-- no rule is due
+pub none_taken : (k : Kernel) (at : Place) (around : List Loop) {l : Ledger} {r : Reached} {e : Refused} → due k at ≡ Err e → IsErrAnd r (λ x. x ≡ e) → TakenPlain k at l around (with_ledger r l)
+none_taken k at around {l} {r} e h =
+    let (x, is, same) = err_from_is_err_and r h in
+    let refused = is ∙ ap (λ (x : Refused). Err x) same in
+    record {
+      as_defined = λ os o. no_rule k os at l os l e refused;
+      onward = λ to. refuses refused;
+      reads_on = λ to. refuses refused;
+    }
 
 module _ {k : Kernel} {l : Ledger} {around : List Loop} {q : Rule} {p : Pair} {answer : Std.Result Unit Misfit} (R : Refuses k l around q p answer)
     {at : Place} (there : AtRule k.counts at l) (e : due k at ≡ Ok q) (n : Next k at p) where

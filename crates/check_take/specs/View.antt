@@ -144,6 +144,10 @@ pub record Plain (r : Rule) : Type 0 where
   pub no_else : r ≡ Else → ⊥
   pub no_end : r ≡ End → ⊥
 
+-- what is due is such a rule, or none
+abbrev pub PlainOrNone : Std.Result Rule Refused → Type 0
+PlainOrNone next = (r : Rule) → next ≡ Ok r → Plain r
+
 -- ---- the array program, as it was read
 
 -- it reads on from there with these blocks open

@@ -9,7 +9,7 @@ ghost use Rattle.parts.specs.Records.{rec};
 ghost use Rattle.check_ledger.specs.View.{Bounded};
 ghost use Rattle.check_ledger.specs.declared.Ledger as Code;
 ghost use Rattle.check_take.specs.View as View;
-ghost use Rattle.check_take.specs.View.{due, array_there, stream_there, with_ledger, AtRule, RuleThere, Closing, Plain};
+ghost use Rattle.check_take.specs.View.{due, array_there, stream_there, with_ledger, AtRule, RuleThere, Closing, Plain, PlainOrNone};
 
 use check_ledger::Ledger;
 use check_rows::{Change, Counter, HoldRows};
@@ -114,33 +114,36 @@ fn refuses(kernel: Kernel, rule: Rule, pair: Pair, l: &Ledger, around: Loops) ->
     requires { Turning around × Plain rule × View.NextSomewhere kernel pair × ((m : ℕ) × Bounded m l.now × (m ≤ 4096)) }
     ensures { View.Refuses kernel.entry l.now (loops around) rule pair result }
 {
-    check_rules::need(Misfit::DoesNotFit, pair.fits(rule, kernel.counts.r))?;
+    check_rules::need(Misfit::DoesNotFit, pair.fits(Ok(rule), kernel.counts.r))?;
     let line = Line { kernel, rule, pair };
     asked(line, l, around)
 }
 
-// Any rule that opens and closes no block.
+// Any rule that opens and closes no block; a code that is no rule's is refused with 10.
 pub fn plain(
     kernel: Kernel,
     at: Place,
-    rule: Rule,
+    next: Result<Rule, Refused>,
     l: &mut Ledger,
     around: Loops,
 ) -> Result<Place, Refused>
-    requires { AtRule kernel.counts at l.old × Turning around × (due kernel at ≡ Ok rule) × Plain rule }
+    requires { AtRule kernel.counts at l.old × Turning around × (due kernel at ≡ next) × PlainOrNone next }
     ensures { View.TakenPlain kernel.entry at l.old (loops around) (with_ledger result l.new) }
 {
+    let rule = next?;
     let pair = pair_next(kernel, at);
     refuses(kernel, rule, pair, l, around).map_err(|m| at.refused(m))?;
-    if check_rules::steps(rule) {
+    if check_rules::steps(Ok(rule)) {
         check_rules::step(Line { kernel, rule, pair }, l);
     }
-    Ok(at.further(check_rules::arrays_taken(rule)))
+    Ok(at.further(check_rules::arrays_taken(Ok(rule))))
 }
 
 // ---- a for
 
 // The statements and rows fit (10), and the rows are true at first (14); the ledger that they state is the ledger inside.
+// Out of line: no block inside keeps room for the ledger that is read here.
+#[inline(never)]
 pub fn enter_for(kernel: Kernel, at: Place, l: &mut Ledger, around: Loops) -> Result<Place, Refused>
     requires { AtRule kernel.counts at l.old × (around.count ≤ 4) × (due kernel at ≡ Ok R.For) }
     ensures { View.EnteredFor kernel.entry at l.old (loops around) (with_ledger result l.new) }
@@ -152,14 +155,20 @@ pub fn enter_for(kernel: Kernel, at: Place, l: &mut Ledger, around: Loops) -> Re
         pair.for_fits(kernel, at.rule, around.count),
     )?;
     let records = kernel.sections().derivation();
-    let rows = HoldRows::after(records, at.rule, c.a, c.b);
+    let mut stated = Ledger::fresh();
+    check_rows::state(records, at.rule, c.a, c.b, &mut stated);
+    let rows = HoldRows {
+        ledger: &stated,
+        arrays: c.a,
+        buffers: c.b,
+    };
     let first = pair.array.for_loop().first;
     let change = Change {
         level: around.count,
         counter: Counter::At(first),
     };
     at.need(Misfit::UntrueAtEntry, rows.are_true(l, change, around))?;
-    *l = rows.ledger;
+    *l = stated;
     Ok(Place {
         rule: at.rule + 1 + c.a + c.b,
         array: at.array + 1,
@@ -172,7 +181,7 @@ fn closes(kernel: Kernel, at: Place, rule: Rule) -> bool
     requires { (at.rule < kernel.counts.d) × (rule ≡ R.For → ⊥) }
     ensures { View.Closes kernel.entry at rule result }
 {
-    rule_next(kernel, at) == Ok(rule) && pair_next(kernel, at).fits(rule, kernel.counts.r)
+    rule_next(kernel, at) == Ok(rule) && pair_next(kernel, at).fits(Ok(rule), kernel.counts.r)
 }
 
 // At the end of a body: the rows hold after a step (15), and after the loop they hold at its limit. `inside` are the loops around the body, the for's
@@ -181,12 +190,12 @@ pub fn leave_for(
     kernel: Kernel,
     at: Place,
     l: &mut Ledger,
-    rows: &HoldRows,
+    rows: HoldRows,
     own: Loop,
     inside: Loops,
 ) -> Result<Place, Refused>
-    requires { AtRule kernel.counts at l.old × Closing kernel at × (rows.now.arrays ≡ kernel.counts.a) × (rows.now.buffers ≡ kernel.counts.b) × LoopFits (loop own) × (1 ≤ inside.count) × (inside.count ≤ 4) }
-    ensures { View.LeftFor kernel.entry at l.old rows.now.ledger (loop own) (loops inside) (with_ledger result l.new) }
+    requires { AtRule kernel.counts at l.old × Closing kernel at × (rows.arrays ≡ kernel.counts.a) × (rows.buffers ≡ kernel.counts.b) × LoopFits (loop own) × (1 ≤ inside.count) × (inside.count ≤ 4) }
+    ensures { View.LeftFor kernel.entry at l.old rows.entry.ledger.now (loop own) (loops inside) (with_ledger result l.new) }
 {
     at.need(Misfit::DoesNotFit, closes(kernel, at, Rule::End))?;
     let level = inside.count - 1;
@@ -209,7 +218,7 @@ pub fn enter_if(kernel: Kernel, at: Place) -> Result<Place, Refused>
     requires { RuleThere kernel.counts at × (due kernel at ≡ Ok R.If) }
     ensures { (l : Code.Ledger) → AtRule kernel.entry.counts at l → View.EnteredIf kernel.entry at l (with_ledger result l) }
 {
-    let fits = pair_next(kernel, at).fits(Rule::If, kernel.counts.r);
+    let fits = pair_next(kernel, at).fits(Ok(Rule::If), kernel.counts.r);
     at.need(Misfit::DoesNotFit, fits)?;
     Ok(at.further(1))
 }
@@ -224,6 +233,8 @@ pub fn turn(kernel: Kernel, at: Place) -> Result<Place, Refused>
 }
 
 // At the end of the second branch: positions equal those of the first (16), and buffers keep what both have.
+// In line: there the two ledgers are known to lie apart, and the archive asks a C library for no more than before.
+#[inline(always)]
 pub fn leave_if(
     kernel: Kernel,
     at: Place,

@@ -4,6 +4,7 @@ use Rattle.numbers.specs.Result.{◌>>=◌}
 use Rattle.forms.specs.Form.{Loop}
 use Rattle.forms.specs.declared.Loops.{Loops}
 use Rattle.forms.specs.Code.{Turning}
+use Rattle.forms.specs.Code as Forms
 use Rattle.kernel.specs.Reading.{Open, open_loops}
 use Rattle.kernel.specs.Derivation.{Opened, loops}
 use Rattle.kernel.specs.Check.{walk_on, no_block}
@@ -12,7 +13,7 @@ use Rattle.kernel.specs.declared.codes.Rule.TheVariants.{Else, End}
 use Rattle.parts.specs.declared.Kernel.{Kernel}
 use Rattle.check_ledger.specs.declared.Ledger.{Ledger}
 use Rattle.check_take.specs.declared.Place.{Place}
-use Rattle.check_take.specs.View.{held_by, Reached, Taken, with_ledger, place, taken, Stood, AtRule, due, Closing, ReadsOn}
+use Rattle.check_take.specs.View.{held_by, Reached, Taken, with_ledger, standing, place, taken, Stood, AtRule, due, Closing, ReadsOn, EnteredFor}
 
 -- from there on the definition's walk with os open goes on as from where r leaves it with os' open, or is refused as r says
 abbrev pub Goes : Kernel → (os : List Opened) → Place → Ledger → (os' : List Opened) → Taken → Type 0
@@ -51,3 +52,7 @@ RuleDue k at l ls rule = AtRule k.counts at l × Turning ls × (ls.count ≤ 4) 
 -- it has been walked from there to r, a for or an if with all inside it
 abbrev pub RuleWalked : Kernel → (around : List Loop) → Place → Ledger → Taken → Type 0
 RuleWalked k around at l r = ((os : List Opened) → loops os ≡ around → Goes k os at l os r) × ((to : Place) → r.came ≡ Ok to → Further k at to r.ledger × (at.rule < to.rule))
+
+-- the for there has been entered, from some ledger: it goes on at `body`, inside, with ledger l
+abbrev pub ForEntered : Kernel → Place → (body : Place) → Ledger → Loops → Type 0
+ForEntered k at body l ls = (start : Ledger) × AtRule k.counts at start × EnteredFor k at start (Forms.loops ls) (standing body l)

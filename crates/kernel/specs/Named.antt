@@ -109,6 +109,18 @@ rule R.If = D.if_rule
 rule R.Else = D.else_rule
 rule R.End = D.end_rule
 
+unfoldable pub rule_number : Rule → ℕ
+rule_number R.Same = 1
+rule_number R.Read = 2
+rule_number R.Fill = 3
+rule_number R.Use = 4
+rule_number R.Move = 5
+rule_number R.Write = 6
+rule_number R.For = 7
+rule_number R.If = 8
+rule_number R.Else = 9
+rule_number R.End = 10
+
 unfoldable pub ruled : ℕ → Result Rule NoCode
 ruled w =
     get_or (Err no_code ∷ Ok R.Same ∷ Ok R.Read ∷ Ok R.Fill ∷ Ok R.Use ∷ Ok R.Move ∷ Ok R.Write ∷ Ok R.For ∷ Ok R.If ∷ Ok R.Else ∷ Ok R.End ∷ []) w (Err no_code)

@@ -1,7 +1,7 @@
 // The codes of a kernel file's records.
 
 ghost use Rattle.std.specs.Prelude.{◌≡◌};
-ghost use Rattle.kernel.specs.Named.{side, sided, code, coded, ruled, row};
+ghost use Rattle.kernel.specs.Named.{side, sided, code, coded, rule_number, ruled, row};
 
 // The two sides of arrays.
 #[derive(Clone, Copy, Debug, PartialEq, Eq)]
@@ -127,6 +127,14 @@ impl From<Code> for u32 {
 
     fn from(c: Code) -> u32 {
         c as u32
+    }
+}
+
+impl From<Rule> for u32 {
+    ghost from_gives = { λ r n. n ≡ rule_number r };
+
+    fn from(rule: Rule) -> u32 {
+        rule as u32
     }
 }
 

@@ -1,18 +1,34 @@
--- The digits that the definition gives are those that the library prints.
-use Rattle.std.proofs.Common.{◌≡◌, ℕ, suc, ◌<◌, ◌^◌, List, [], ◌∷◌, ◌++◌, refl, ap, arith}
-use Rattle.std.specs.Fmt as Fmt
-use Rattle.std.proofs.lemmas.Fmt.{PrependsLastDigit, decimal_from_prepends, length-decimal-le_succ}
-use Rattle.kernel.specs.Answers.{decimal, spaced}
-use Rattle.kernel.proofs.Digits.{digit, last_digit}
+-- The decimal digits of a number, one after another from the last; and how many are left.
+use Prim.Native.Nat.{ℕ, zero, suc, ◌+◌, ◌-◌, ◌/◌, ◌%◌, ◌^◌, ◌≤◌, ◌<◌}
+use mathlib.Core.Path.{◌≡◌, subst, ◌∙◌}
+use mathlib.Core.List.{List, ◌∷◌}
+use native.Mathlib.Omega.{arith}
+use native.Mathlib.Nat.{pow-succ'}
+use Rattle.kernel.specs.Answers.{decimal}
+use Rattle.kernel.proofs.Digits.{last_digit, enough}
 
-last_before : PrependsLastDigit decimal
-last_before = record { one = digit; more = last_digit }
+pub next_digit : (n : ℕ) (t : List ℕ) → 10 ≤ n → decimal (suc n) n t ≡ decimal (suc (n / 10)) (n / 10) ((48 + n % 10) ∷ t)
+next_digit n t h = last_digit n n t h ∙ enough n (suc (n / 10)) (n / 10) ((48 + n % 10) ∷ t) (omega arith) (omega arith)
 
--- a number after a space
-pub number : (n : ℕ) (ns : List ℕ) → n < 2 ^ 64 → spaced (n ∷ ns) ≡ 32 ∷ (Fmt.decimal n ++ spaced ns)
-unfolding spaced
-number n ns h = ap (λ l. 32 ∷ l) (decimal_from_prepends decimal last_before (suc n) n (spaced ns) h (omega (arith, length-decimal-le_succ n h)))
+-- room for the digits that are left: a text that began with five bytes to spare before from₀, and now begins at from
+pub record Room (rest from₀ from : ℕ) : Type 0 where
+  pub most : ℕ
+  pub few : rest < 10 ^ suc most
+  pub spare : from₀ + suc most ≤ from + 5
 
-pub end : spaced [] ≡ 10 ∷ []
-unfolding spaced
-end = refl
+pub room_begins : (n from : ℕ) → n < 65536 → Room n from from
+room_begins n from h = record { most = 4; few = omega arith; spare = omega arith }
+
+falls : (k n : ℕ) → 10 ≤ n → n < 10 ^ suc k → (1 ≤ k) × (n / 10 < 10 ^ k)
+falls zero n h l = absurd (omega arith)
+falls (suc k) n h l = let p = pow-succ' 10 (suc k) in (omega arith, omega arith)
+
+-- a digit and a byte less
+pub room_less : (n from₀ from : ℕ) → 10 ≤ n → Room n from₀ (from + 1) → Room (n / 10) from₀ from
+room_less n from₀ from h r =
+    let f = falls r.most n h r.few in
+    let e : r.most ≡ suc (r.most - 1) = omega (arith, f.0) in record {
+      most = r.most - 1;
+      few = subst (λ k. n / 10 < 10 ^ k) e f.1;
+      spare = omega (arith, f.0, r.spare);
+    }

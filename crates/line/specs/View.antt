@@ -1,13 +1,8 @@
 -- What a text shows.
-use Rattle.std.specs.Prelude.{ℕ, ◌≡◌, List}
-use Rattle.kernel.specs.Answers as Answers
-use Rattle.check_file.specs.View.{answer}
+use Rattle.std.specs.Prelude.{ℕ, ◌≡◌, List, ◌++◌, length, replicate}
 use Rattle.line.specs.declared.Text.{Text}
 
--- the bytes that it prints
-abbrev pub shown : Text → List ℕ
-shown l = Answers.line (answer l.answer)
-
--- they are t
-abbrev pub Shows : Text → (t : List ℕ) → Type 0
-Shows l t = shown l ≡ t
+-- its bytes end with t, and zeros stand before it
+pub record Shows (l : Text) (t : List ℕ) : Type 0 where
+  pub bytes : l.bytes ≡ replicate l.from 0 ++ t
+  pub long : length l.bytes ≡ 32

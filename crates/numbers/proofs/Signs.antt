@@ -1,5 +1,5 @@
 -- Signed numbers in 64 bits: bounds under which sums, differences, products and quotients fit, and what a word's signed number and low bits are.
-use Rattle.std.proofs.Common.{◌≡◌, ℕ, suc, ◌+◌, ◌-◌, ◌*◌, ◌/◌, ◌%◌, ◌^◌, ◌<◌, ◌≤◌, Bool, true, false, cond, not, T, ltb, leb, ◌⊎◌, ℤ, pos, negsuc, ◌+ℤ◌, ◌-ℤ◌, ◌*ℤ◌, nat_abs, sym, refl, ap, ◌∙◌, subst, inl, inr, arith, ltb→lt, leb→le, nltb→le, to_z-of_z, w64, SFits, to_z, of_z, ltb-false, ltb-true, le-ltb, lt-ltb}
+use Rattle.std.proofs.Common.{◌≡◌, ℕ, suc, ◌+◌, ◌-◌, ◌*◌, ◌/◌, ◌%◌, ◌^◌, ◌<◌, ◌≤◌, Bool, true, false, cond, not, T, ltb, leb, ◌⊎◌, ℤ, pos, negsuc, ◌+ℤ◌, ◌-ℤ◌, ◌*ℤ◌, nat_abs, sym, refl, ap, ◌∙◌, subst, inl, inr, arith, lit<, ltb→lt, leb→le, nltb→le, to_z-of_z, w64, SFits, to_z, of_z, ltb-false, ltb-true, le-ltb, lt-ltb}
 use native.Mathlib.Nat as NatL
 use lib.Signed.{mag, quot_z}
 use mir.Val.{sel}
@@ -28,6 +28,9 @@ small_quot {A} {a} b h = record { abs = rw (abs_quot a b) (NatL.le_trans (NatL.d
 
 pub small_zero : {A : ℕ} → Small A (pos 0)
 small_zero = record { abs = omega arith }
+
+pub small_pos : {n : ℕ} → n < 2 ^ 32 → Small (2 ^ 32) (pos n)
+small_pos h = record { abs = omega arith }
 
 -- ---- a signed local holds bits: what is read of it is `back z`, which is z where z fits
 
@@ -104,6 +107,17 @@ halves w = by (ltb w (2 ^ 31)) refl
     by true e = inl (ltb-true w (2 ^ 31) e)
     by false e = inr (ltb-false w (2 ^ 31) e)
 
+-- either as a difference: v is the word 2³¹ on, wrapped
+pub signed_less : {w v : ℕ} → w < 2 ^ 32 → v ≡ (w + 2 ^ 31) % 2 ^ 32 → pos v -ℤ pos (2 ^ 31) ≡ signed w
+signed_less {w} {v} k e = by (halves w)
+  where
+    difference : Bool → ℤ
+    difference t = cond t (negsuc (2 ^ 31 - suc v)) (pos (v - 2 ^ 31))
+
+    by : (w < 2 ^ 31) ⊎ (2 ^ 31 ≤ w) → pos v -ℤ pos (2 ^ 31) ≡ signed w
+    by (inl h) = let f : v - 2 ^ 31 ≡ w = omega arith in ap difference (le-ltb v (2 ^ 31) (omega arith)) ∙ ap pos f ∙ sym (signed_low h)
+    by (inr h) = let f : 2 ^ 31 - suc v ≡ 2 ^ 32 - suc w = omega arith in ap difference (lt-ltb v (2 ^ 31) (omega arith)) ∙ ap negsuc f ∙ sym (signed_high h)
+
 pub small_signed : {w : ℕ} → w < 2 ^ 32 → Small (2 ^ 31) (signed w)
 small_signed {w} k = by (halves w)
   where
@@ -116,6 +130,9 @@ pub low_bits : (z : ℤ) → SFits w64 z → of_z w64 z % 2 ^ 32 ≡ low32 z
 unfolding low32
 low_bits (pos n) f = refl
 low_bits (negsuc n) f = let h : n < 2 ^ 63 = f.sfits in omega arith
+
+pub product : {a b : ℕ} → a < 2 ^ 32 → b < 2 ^ 32 → a * b < 2 ^ 64
+product {a} {b} h k = NatL.lt_of_le_of_lt (NatL.mul-le-mul {n₁ = a} {m₁ = b} {n₂ = 2 ^ 32 - 1} {m₂ = 2 ^ 32 - 1} (omega arith) (omega arith)) (lit< tt)
 
 -- the bits of a word's signed number are not 0 where the word is not
 pub not_zero : {w : ℕ} → 0 < w → w < 2 ^ 32 → 0 < of_z w64 (signed w)

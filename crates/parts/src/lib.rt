@@ -9,10 +9,12 @@ ghost use Rattle.kernel.specs.Answers as Answers;
 ghost use Rattle.kernel.specs.Named.{sided};
 ghost use Rattle.parts.specs.Records.{rec, record_at};
 ghost use Rattle.parts.specs.Parts.{Few, Fills, Lies, ReadAs, arrays_part, array_part, stream_part, derivation_part, records_in};
-ghost use Rattle.parts.specs.Arrays.{arrays_of, array_at, side_there, Fitting, measure};
+ghost use Rattle.parts.specs.Statements.{stated};
+ghost use Rattle.parts.specs.Arrays.{arrays_of, array_at, HasArray, side_there, Fitting, measure};
 
 use forms::{Form, Loop};
-use kernel::codes::Side;
+use kernel::codes::{Code, NoCode, Side};
+use statements::{Op, Operator, Statement};
 
 pub mod statements;
 
@@ -67,6 +69,54 @@ impl<'a> RecordTable<'a> {
         ensures { result ≡ (get_or (records_in self.entry.file.now self.entry.part) i File.nothing).code }
     {
         numbers::whole_word(self.file, self.part.at + 8 * i)
+    }
+
+    // A number of record i; the first is its code.
+    fn number(self, i: usize, n: usize) -> u32
+        requires { (i < self.part.count) × (n < 8) }
+        ensures { result ≡ get_or (File.numbers (get_or (records_in self.entry.file.now self.entry.part) i File.nothing)) n 0 }
+    {
+        numbers::whole_word(self.file, self.part.at + 8 * i + n)
+    }
+
+    // Number n of record i, as the number of a register, an array or a stream.
+    fn name(self, i: usize, n: usize) -> usize
+        requires { (i < self.part.count) × (n < 8) }
+        ensures { result ≡ get_or (File.numbers (get_or (records_in self.entry.file.now self.entry.part) i File.nothing)) n 0 }
+    {
+        self.number(i, n) as usize
+    }
+
+    // What record i says: of it no more is read than its code uses.
+    pub fn statement(self, i: usize) -> Result<Statement, NoCode>
+        ensures { stated result ≡ File.statement (get_or (records_in self.entry.file.now self.entry.part) i File.nothing) }
+    {
+        if i >= self.part.count {
+            return Err(NoCode);
+        }
+        Ok(match Code::try_from(self.code(i))? {
+            Code::Set => Statement::Does(Op::Set(self.name(i, 1), self.record(i).form())),
+            Code::Copy => Statement::Does(Op::Copy(self.name(i, 1), self.name(i, 2))),
+            Code::Work => {
+                let o = Operator::from(self.number(i, 4));
+                let q = self.name(i, 2);
+                Statement::Does(Op::Work(o, self.name(i, 1), q, self.name(i, 3)))
+            }
+            Code::Load => {
+                let f = self.record(i).form();
+                Statement::Does(Op::Load(self.name(i, 1), self.name(i, 2), f))
+            }
+            Code::Store => {
+                let f = self.record(i).form();
+                Statement::Does(Op::Store(self.name(i, 1), self.name(i, 2), f))
+            }
+            Code::Read => Statement::Does(Op::Read(self.name(i, 1), self.name(i, 2))),
+            Code::Write => Statement::Does(Op::Write(self.name(i, 1), self.name(i, 2))),
+            Code::For => Statement::For(self.record(i).for_loop()),
+            Code::If => Statement::If(self.name(i, 1)),
+            Code::Else => Statement::Else,
+            Code::End => Statement::End,
+        })
     }
 }
 
@@ -250,15 +300,23 @@ pub enum Measure {
     Items,
 }
 
-// The side of array j of the first n of a file; none past the last.
-pub fn side_in(file: &[u8], n: usize, j: usize) -> Option<Side>
+// The cells of array j of a file, whether or not reading has found it right.
+pub fn length_of(file: &[u8], j: usize) -> u32
+    requires { HasArray file.now j }
+    ensures { result ≡ File.length_of (array_at file.now j) }
+{
+    record_at(file, 3 + 8 * j).p
+}
+
+// The side of array j of the first n of a file, as its number; 0 past the last.
+pub fn side_in(file: &[u8], n: usize, j: usize) -> u32
     requires { (n ≤ 8) × (3 + 8 * n ≤ length file.now / 4) }
-    ensures { result ≡ side_there (sided (get_or (arrays_of file.now n) j File.nothing).code) }
+    ensures { result ≡ File.side_of (get_or (arrays_of file.now n) j File.nothing) }
 {
     if j < n {
-        return Side::try_from(numbers::whole_word(file, 3 + 8 * j)).ok();
+        return numbers::whole_word(file, 3 + 8 * j);
     }
-    None
+    0
 }
 
 // The arrays that a file declares.
@@ -284,7 +342,7 @@ impl<'a> ArrayTable<'a> {
     pub fn side(self, j: usize) -> Option<Side>
         ensures { result ≡ side_there (sided (get_or (arrays_of self.entry.file.now self.entry.count) j File.nothing).code) }
     {
-        side_in(self.file, self.count, j)
+        Side::try_from(side_in(self.file, self.count, j)).ok()
     }
 
     pub fn length(self, j: usize) -> u32

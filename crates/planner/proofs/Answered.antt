@@ -63,7 +63,10 @@ move_tells word x y e m a t = subst (Tells word) (ap (λ z. move_answer_numbers 
 
 -- ---- counts of 0 need not be given
 
-pub counts_left_out : (word : ℕ) (e : Ending) → Tells word (ending_numbers e ++ 0 ∷ 0 ∷ []) → Tells word (ending_numbers e)
+pub counts_left_out : (word : ℕ) (e : Ending) {read written : ℕ} → Tells word (ending_numbers e ++ read ∷ written ∷ []) → read ≡ 0 → written ≡ 0 → Tells word (ending_numbers e)
 unfolding ending_numbers
-counts_left_out word ended t = tells_before word (0 ∷ 0 ∷ []) (tells_before word (0 ∷ 0 ∷ 0 ∷ []) t)
-counts_left_out word (sticks reason n) t = tells_before word (reason ∷ n ∷ []) (tells_before word (reason ∷ n ∷ 0 ∷ []) t)
+counts_left_out word e {read} {written} t r w = by e (subst (λ n. Tells word (ending_numbers e ++ n ∷ 0 ∷ [])) r (subst (λ n. Tells word (ending_numbers e ++ read ∷ n ∷ [])) w t))
+  where
+    by : (e : Ending) → Tells word (ending_numbers e ++ 0 ∷ 0 ∷ []) → Tells word (ending_numbers e)
+    by ended t = tells_before word (0 ∷ 0 ∷ []) (tells_before word (0 ∷ 0 ∷ 0 ∷ []) t)
+    by (sticks reason n) t = tells_before word (reason ∷ n ∷ []) (tells_before word (reason ∷ n ∷ 0 ∷ []) t)

@@ -18,13 +18,13 @@ use Rattle.read_blocks.specs.declared.open.OpenBlocks.{OpenBlocks}
 use Rattle.read_blocks.specs.Blocks.{block, first}
 use Rattle.read_blocks.specs.View.{opens}
 
-length_first : (bs : List Open) (d : ℕ) → length (first bs d) ≡ d
+pub length_first : (bs : List Open) (d : ℕ) → length (first bs d) ≡ d
 unfolding first
 length_first bs zero = refl
 length_first bs (suc d) = ap suc (length_first bs d)
 
 -- what is not yet open may change
-first_set : (bs : List Open) (d i : ℕ) (b : Open) → d ≤ i → first (set bs i b) d ≡ first bs d
+pub first_set : (bs : List Open) (d i : ℕ) (b : Open) → d ≤ i → first (set bs i b) d ≡ first bs d
 unfolding first
 first_set bs zero i b h = refl
 first_set bs (suc d) i b h = ap₂ (λ x os. block x ∷ os) (get_or-set_other bs i d b If (λ e. differ e)) (first_set bs d i b (omega arith))
@@ -32,13 +32,13 @@ first_set bs (suc d) i b h = ap₂ (λ x os. block x ∷ os) (get_or-set_other b
     differ : d ≡ i → ⊥
     differ e = omega arith
 
-loops_more : (b : Open) (os : List Reading.Open) → open_loops (block b ∷ os) ≡ open_loops os + open_loops (block b ∷ [])
+pub loops_more : (b : Open) (os : List Reading.Open) → open_loops (block b ∷ os) ≡ open_loops os + open_loops (block b ∷ [])
 unfolding open_loops block
 loops_more (For n) os = omega arith
 loops_more If os = omega arith
 loops_more Else os = omega arith
 
-passes_more : (b : Open) (os : List Reading.Open) → all_passes (block b ∷ os) ≡ all_passes os * all_passes (block b ∷ [])
+pub passes_more : (b : Open) (os : List Reading.Open) → all_passes (block b ∷ os) ≡ all_passes os * all_passes (block b ∷ [])
 unfolding all_passes block
 passes_more (For n) os = NatL.mul_comm n (all_passes os) ∙ ap (λ m. all_passes os * m) (sym (NatL.mul-one n))
 passes_more If os = sym (NatL.mul-one (all_passes os))
@@ -53,21 +53,21 @@ one_loop Else = omega arith
 
 -- ---- the innermost of them
 
-top : (bs : List Open) (d : ℕ) → 0 < d → first bs d ≡ block (get_or bs (d - 1) If) ∷ first bs (d - 1)
+pub top : (bs : List Open) (d : ℕ) → 0 < d → first bs d ≡ block (get_or bs (d - 1) If) ∷ first bs (d - 1)
 unfolding first
 top bs zero h = absurd (omega arith)
 top bs (suc d) h =
     let e : d ≡ suc d - 1 = omega arith in
     ap (λ i. block (get_or bs i If) ∷ first bs i) e
 
-pushed : (bs : List Open) (d : ℕ) (b : Open) → d < length bs → first (set bs d b) (d + 1) ≡ block b ∷ first bs d
+pub pushed : (bs : List Open) (d : ℕ) (b : Open) → d < length bs → first (set bs d b) (d + 1) ≡ block b ∷ first bs d
 pushed bs d b h =
     let e : d + 1 - 1 ≡ d = omega arith in
     top (set bs d b) (d + 1) (omega arith)
     ∙ ap (λ i. block (get_or (set bs d b) i If) ∷ first (set bs d b) i) e
     ∙ ap₂ (λ x os. block x ∷ os) (get_or-set_same bs d b If h) (first_set bs d d b (omega arith))
 
-changed : (bs : List Open) (d : ℕ) (b : Open) → 0 < d → d ≤ length bs → first (set bs (d - 1) b) d ≡ block b ∷ first bs (d - 1)
+pub changed : (bs : List Open) (d : ℕ) (b : Open) → 0 < d → d ≤ length bs → first (set bs (d - 1) b) d ≡ block b ∷ first bs (d - 1)
 changed bs d b h l =
     top (set bs (d - 1) b) d h
     ∙ ap₂ (λ x os. block x ∷ os) (get_or-set_same bs (d - 1) b If (omega arith)) (first_set bs (d - 1) (d - 1) b (omega arith))
@@ -80,19 +80,19 @@ module _ (os : List Reading.Open) where
   unfolding opened
   by_tests a b c x y z = (λ i. need 5 (x i && y i && z i) >>= λ _. ok os)
 
-  opened_deep : 8 < length os → opened os ≡ stop 5
+  pub opened_deep : 8 < length os → opened os ≡ stop 5
   unfolding need ◌>>=◌
   opened_deep h = by_tests false (leb (open_loops os) 4) (leb (all_passes os) 65536) (lt-leb (length os) 8 h) refl refl
 
-  opened_loops : length os ≤ 8 → 4 < open_loops os → opened os ≡ stop 5
+  pub opened_loops : length os ≤ 8 → 4 < open_loops os → opened os ≡ stop 5
   unfolding need ◌>>=◌
   opened_loops h k = by_tests true false (leb (all_passes os) 65536) (le-leb (length os) 8 h) (lt-leb (open_loops os) 4 k) refl
 
-  opened_passes : length os ≤ 8 → open_loops os ≤ 4 → 65536 < all_passes os → opened os ≡ stop 5
+  pub opened_passes : length os ≤ 8 → open_loops os ≤ 4 → 65536 < all_passes os → opened os ≡ stop 5
   unfolding need ◌>>=◌
   opened_passes h k l = by_tests true true false (le-leb (length os) 8 h) (le-leb (open_loops os) 4 k) (lt-leb (all_passes os) 65536 l)
 
-  opened_fine : length os ≤ 8 → open_loops os ≤ 4 → all_passes os ≤ 65536 → opened os ≡ ok os
+  pub opened_fine : length os ≤ 8 → open_loops os ≤ 4 → all_passes os ≤ 65536 → opened os ≡ ok os
   unfolding need ◌>>=◌
   opened_fine h k l = by_tests true true true (le-leb (length os) 8 h) (le-leb (open_loops os) 4 k) (le-leb (all_passes os) 65536 l)
 
@@ -235,7 +235,7 @@ module _ (n : OpenBlocks) (h : 0 < n.depth) where
     unfolding block open_loops
     for_loops = loops_as w
 
-    for_passes : n.product ≡ m * all_passes others
+    pub for_passes : n.product ≡ m * all_passes others
     unfolding block all_passes
     for_passes = product_as w
 

@@ -11,7 +11,7 @@ use Rattle.read_blocks.specs.Blocks.{first}
 unfoldable pub opens : OpenBlocks → List Reading.Open
 opens n = first n.blocks n.depth
 
--- the blocks that are open, or the number of a refusal
-unfoldable pub nested : Result OpenBlocks Misread → R.Result ℕ (List Reading.Open)
-nested (Ok n) = ok (opens n)
-nested (Err m) = stop (misread m)
+-- what a step answered and the blocks that it left: those that are open, or the number of a refusal
+unfoldable pub nested : Result (Unit {0}) Misread → OpenBlocks → R.Result ℕ (List Reading.Open)
+nested (Ok t) n = ok (opens n)
+nested (Err m) n = stop (misread m)

@@ -1,7 +1,7 @@
 // The blocks that are open where a program is read, and what each statement makes of them.
 #![tactic(auto)]
 
-ghost use Rattle.std.specs.Prelude.{◌≡◌, [], ◌∷◌, ◌≤◌};
+ghost use Rattle.std.specs.Prelude.{◌≡◌, [], ◌∷◌, ◌≤◌, IsErr};
 ghost use Rattle.forms.specs.Code.{form};
 ghost use Rattle.kernel.specs.File as File;
 ghost use Rattle.kernel.specs.Reading as Reading;
@@ -31,9 +31,9 @@ pub fn none() -> OpenBlocks
 }
 
 // One more block.
-fn opened(n: OpenBlocks, b: Open) -> Result<OpenBlocks, Misread>
+fn opened(n: &mut OpenBlocks, b: Open) -> Result<(), Misread>
     requires { (1 ≤ Reading.all_passes (block b ∷ [])) × (Reading.all_passes (block b ∷ []) ≤ 131072) }
-    ensures { nested result ≡ Reading.opened (block b ∷ opens n) }
+    ensures { (nested result n.new ≡ Reading.opened (block b ∷ opens n.old)) × (IsErr result → n.new ≡ n.old) }
 {
     let depth = n.depth;
     let loops = n.loops + b.loops();
@@ -41,95 +41,84 @@ fn opened(n: OpenBlocks, b: Open) -> Result<OpenBlocks, Misread>
     if 8 <= depth || 4 < loops || 65536 < product {
         return Err(Misread::TooDeep);
     }
-    let mut blocks = n.blocks;
-    blocks[depth] = b;
-    Ok(OpenBlocks {
-        depth: depth + 1,
-        loops,
-        product,
-        blocks,
-    })
+    n.depth = depth + 1;
+    n.loops = loops;
+    n.product = product;
+    n.blocks[depth] = b;
+    Ok(())
 }
 
 // An if's block begins its else.
-fn at_else(n: OpenBlocks) -> Result<OpenBlocks, Misread>
-    ensures { nested result ≡ Reading.after_else (opens n) }
+fn at_else(n: &mut OpenBlocks) -> Result<(), Misread>
+    ensures { (nested result n.new ≡ Reading.after_else (opens n.old)) × (IsErr result → n.new ≡ n.old) }
 {
     if n.depth == 0 {
         return Err(Misread::BlocksUnmatched);
     }
     let top = n.depth - 1;
-    let mut blocks = n.blocks;
-    let Open::If = blocks[top] else {
+    let Open::If = n.blocks[top] else {
         return Err(Misread::BlocksUnmatched);
     };
-    blocks[top] = Open::Else;
-    Ok(OpenBlocks {
-        depth: n.depth,
-        loops: n.loops,
-        product: n.product,
-        blocks,
-    })
+    n.blocks[top] = Open::Else;
+    Ok(())
 }
 
 // The innermost block ends.
-fn at_end(n: OpenBlocks) -> Result<OpenBlocks, Misread>
-    ensures { nested result ≡ Reading.after_end (opens n) }
+fn at_end(n: &mut OpenBlocks) -> Result<(), Misread>
+    ensures { (nested result n.new ≡ Reading.after_end (opens n.old)) × (IsErr result → n.new ≡ n.old) }
 {
     if n.depth == 0 {
         return Err(Misread::BlocksUnmatched);
     }
     let depth = n.depth - 1;
     match n.blocks[depth] {
-        Open::For(passes) => Ok(OpenBlocks {
-            depth,
-            loops: n.loops - 1,
-            product: n.product / passes,
-            blocks: n.blocks,
-        }),
+        Open::For(passes) => {
+            n.depth = depth;
+            n.loops -= 1;
+            n.product /= passes;
+            Ok(())
+        }
         Open::If => Err(Misread::BlocksUnmatched),
-        Open::Else => Ok(OpenBlocks {
-            depth,
-            loops: n.loops,
-            product: n.product,
-            blocks: n.blocks,
-        }),
+        Open::Else => {
+            n.depth = depth;
+            Ok(())
+        }
     }
 }
 
 // An index form has terms only for the loops around it.
-fn named(n: OpenBlocks, f: Form) -> Result<OpenBlocks, Misread>
-    ensures { nested result ≡ Reading.names (form f) (opens n) }
+fn named(n: &OpenBlocks, f: Form) -> Result<(), Misread>
+    ensures { nested result n.now ≡ Reading.names (form f) (opens n.now) }
 {
     if f.around(n.loops) {
-        Ok(n)
+        Ok(())
     } else {
         Err(Misread::TooDeep)
     }
 }
 
 // One more block, that of a for.
-fn for_opened(n: OpenBlocks, l: Loop) -> Result<OpenBlocks, Misread>
+fn for_opened(n: &mut OpenBlocks, l: Loop) -> Result<(), Misread>
     requires { (1 ≤ l.passes) × (l.passes ≤ 131072) }
-    ensures { nested result ≡ Reading.opened (Reading.open_for l.passes ∷ opens n) }
+    ensures { (nested result n.new ≡ Reading.opened (Reading.open_for l.passes ∷ opens n.old)) × (IsErr result → n.new ≡ n.old) }
 {
     opened(n, Open::For(l.passes))
 }
 
 // A statement that holds no block leaves them as they are, if its form may stand there.
-fn after_op(n: OpenBlocks, o: Op) -> Result<OpenBlocks, Misread>
-    ensures { nested result ≡ Reading.after_op (op o) (opens n) }
+fn after_op(n: &OpenBlocks, o: Op) -> Result<(), Misread>
+    ensures { nested result n.now ≡ Reading.after_op (op o) (opens n.now) }
 {
     match o {
         Op::Set(_, f) | Op::Load(_, _, f) | Op::Store(_, _, f) => named(n, f),
-        Op::Copy(_, _) | Op::Work(_, _, _, _) | Op::Read(_, _) | Op::Write(_, _) => Ok(n),
+        Op::Copy(_, _) | Op::Work(_, _, _, _) | Op::Read(_, _) | Op::Write(_, _) => Ok(()),
     }
 }
 
-// The blocks that are open after a statement; its code and fields are known to be right.
-pub fn after(n: OpenBlocks, r: Rec) -> Result<OpenBlocks, Misread>
+// Of the open blocks, those that are open after a statement; its code and fields are known to be right. One that is refused leaves them.
+pub fn after(n: &mut OpenBlocks, r: Rec) -> Result<(), Misread>
     requires { r.code ≡ 8 → (1 ≤ (File.loop_of (rec r)).passes) × ((File.loop_of (rec r)).passes ≤ 131072) }
-    ensures { nested result ≡ Reading.after (File.statement (rec r)) (opens n) }
+    ensures { (nested result n.new ≡ Reading.after (File.statement (rec r)) (opens n.old)) × (IsErr result → n.new ≡ n.old) }
 {
     match Statement::try_from(r) {
         Ok(Statement::Does(o)) => after_op(n, o),
@@ -137,6 +126,6 @@ pub fn after(n: OpenBlocks, r: Rec) -> Result<OpenBlocks, Misread>
         Ok(Statement::If(_)) => opened(n, Open::If),
         Ok(Statement::Else) => at_else(n),
         Ok(Statement::End) => at_end(n),
-        Err(_) => Ok(n),
+        Err(_) => Ok(()),
     }
 }

@@ -35,7 +35,7 @@ module _ {A : Type 0} (ws : List ℕ) {x : Std.Result Counted Unread} where
     unfolding ◌>>=◌ listed
     listed_go w = ap (λ m. m >>= k) (sym e ∙ ap (listed ws) w)
 
-    listed_stop : {u : Unread} → x ≡ Err u → (n >>= k) ≡ stop (unread u)
+    pub listed_stop : {u : Unread} → x ≡ Err u → (n >>= k) ≡ stop (unread u)
     unfolding ◌>>=◌ listed
     listed_stop w = ap (λ m. m >>= k) (sym e ∙ ap (listed ws) w)
 
@@ -76,7 +76,7 @@ module _ (ws : List ℕ) (p s low high : ℕ) {x : Std.Result Counted Unread} (e
         ∙ ap (λ t. need (fault 1 0 0) t >>= λ _. ok (records f.count (drop f.next ws), drop (8 * f.count) (drop f.next ws)))
         (lt-leb (8 * f.count) (length (drop f.next ws)) (simp length-drop (omega (arith, inside))))
 
-    section_there : f.next + 8 * f.count ≤ length ws
+    pub section_there : f.next + 8 * f.count ≤ length ws
         → section s low high (drop p ws) ≡ ok (records f.count (drop f.next ws), drop (f.next + 8 * f.count) ws)
     unfolding from_count need ◌>>=◌
     section_there l =

@@ -86,6 +86,13 @@ impl<'a> Reader<'a> {
     }
 }
 
+// The number at a place of the file, none where it has ended.
+pub fn number_at(file: &[u8], place: usize) -> Option<u32>
+    ensures { result ≡ number file.now place }
+{
+    Reader::lent(file, place).next()
+}
+
 // ---- counts, as met
 
 // The counts of a file, or the first refusal of a count or a length.

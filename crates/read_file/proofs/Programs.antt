@@ -53,18 +53,18 @@ module _ (c : Scope) (s : ℕ) (rs : List Rec) (i : ℕ) (h : i < length rs) (os
         opened_up
         ∙ ap (λ t. need (fault 3 s i) t >>= λ _. because (λ number. fault number s i) (after (statement this) os) >>= λ os. statements_fit c s (i + 1) os (drop (i + 1) rs)) f
 
-    pub blocked : (m : Misread) → nested (Err m) ≡ after (statement this) os → statements_fit c s i os (drop i rs) ≡ stop (fault (misread m) s i)
+    pub blocked : (m : Misread) (n : OpenBlocks) → nested (Err m) n ≡ after (statement this) os → statements_fit c s i os (drop i rs) ≡ stop (fault (misread m) s i)
     unfolding because ◌>>=◌ nested
-    blocked m e = fine ∙ ap (λ m. because (λ number. fault number s i) m >>= λ os. statements_fit c s (i + 1) os (drop (i + 1) rs)) (sym e)
+    blocked m n e = fine ∙ ap (λ m. because (λ number. fault number s i) m >>= λ os. statements_fit c s (i + 1) os (drop (i + 1) rs)) (sym e)
 
-    pub goes_on : (n : OpenBlocks) → nested (Ok n) ≡ after (statement this) os → statements_fit c s (i + 1) (opens n) (drop (i + 1) rs) ≡ statements_fit c s i os (drop i rs)
+    pub goes_on : (n : OpenBlocks) → nested (Ok tt) n ≡ after (statement this) os → statements_fit c s (i + 1) (opens n) (drop (i + 1) rs) ≡ statements_fit c s i os (drop i rs)
     unfolding because ◌>>=◌ nested
     goes_on n e = sym (fine ∙ ap (λ m. because (λ number. fault number s i) m >>= λ os. statements_fit c s (i + 1) os (drop (i + 1) rs)) (sym e))
 
 -- ---- after the last
 
 module _ (c : Scope) (s : ℕ) (rs : List Rec) (i : ℕ) (n : OpenBlocks) (count : ℕ) (h : length rs ≤ i) (e : i ≡ count) where
-  over : statements_fit c s i (opens n) (drop i rs) ≡ closed s count (opens n)
+  pub over : statements_fit c s i (opens n) (drop i rs) ≡ closed s count (opens n)
   unfolding statements_fit
   over = ap (statements_fit c s i (opens n)) (drop_of_length-le rs {i = i} h) ∙ ap (λ i. closed s i (opens n)) e
 

@@ -78,10 +78,10 @@ fn statements_fit(
         if !held.statement_fits(kinds, r) {
             return Err(refused(Misread::FieldOutside, section, i));
         }
-        open = match read_blocks::after(open, r) {
-            Ok(n) => n,
+        match read_blocks::after(&mut open, r) {
+            Ok(()) => {}
             Err(why) => return Err(refused(why, section, i)),
-        };
+        }
     }
     if open.depth != 0 {
         return Err(refused(Misread::BlocksUnmatched, section, program.part.count));

@@ -1,13 +1,13 @@
 -- The tests of an array: its step, its first index, and the index of its last item in 64 bits.
 use mathlib.Core.Path.{◌≡◌, refl, sym, ap, ◌∙◌}
-use mathlib.Core.Bool.{Bool, true, not, ◌&&◌, ◌||◌}
+use mathlib.Core.Bool.{Bool, true, false, not, ◌&&◌, ◌||◌}
 use mathlib.Core.Logic.{◌⊎◌, inl, inr}
 use Prim.Native.Nat.{ℕ, zero, suc, ◌-◌, ◌^◌, ◌<◌, ◌≤◌}
 use native.Mathlib.Omega.{arith}
 use lib.IntN.{ℤ, pos, negsuc, ◌+ℤ◌, ◌*ℤ◌}
 use lib.Dec.{eqb, ltb}
 use lib.ListN.{get_or, drop}
-use borrow.Author.Tests.{ne_eqb}
+use borrow.Author.Tests.{ne_eqb, le-ltb}
 use mir.Syntax.{w64}
 use mir.Val.{SFits, to_z}
 use mir.Facts.{to_z_pos}
@@ -22,7 +22,7 @@ use Rattle.parts.specs.Records.{rec}
 use Rattle.read_records.proofs.Tests.{both_true, eight_regrouped}
 
 -- only the word 0 is the number 0
-moves : (w : ℕ) → (w ≡ 0 → ⊥) → not (equal (signed w) (pos 0)) ≡ true
+pub moves : (w : ℕ) → (w ≡ 0 → ⊥) → not (equal (signed w) (pos 0)) ≡ true
 moves w h = ap not (not_equal {a = signed w} {b = pos 0} (by (halves w)))
   where
     by : (w < 2 ^ 31) ⊎ (2 ^ 31 ≤ w) → signed w ≡ pos 0 → ⊥
@@ -36,6 +36,10 @@ moves_is : (w : ℕ) → not (eqb w 0) ≡ not (equal (signed w) (pos 0))
 unfolding signed equal
 moves_is zero = refl
 moves_is (suc w) = ap not (ne_eqb (suc w) 0 (λ e. omega arith)) ∙ sym (moves (suc w) (λ e. omega arith))
+
+pub outside : (n i : ℕ) → n ≤ i → inside n (pos i) ≡ false
+unfolding inside
+outside n i h = le-ltb i n h
 
 -- ---- the tests of an array in their turn: those before the last index
 

@@ -1,8 +1,11 @@
-// The machine: run of a block and run of a statement call each other, nesting and passes left falling.
+// The machine: run of a block and run of a statement call each other, nesting and passes left falling. A statement runs a block in the passes of a for and in
+// the branch of an if.
 #![tactic(auto)]
 
 ghost use Rattle.std.specs.Prelude.{◌≡◌, ◌+◌, ◌<◌};
 ghost use Rattle.numbers.specs.Words.{words};
+ghost use Rattle.forms.specs.Code.{loop};
+ghost use Rattle.kernel.specs.File as File;
 ghost use Rattle.kernel.specs.Machine as Machine;
 ghost use Rattle.kernel.specs.Guarantees.{InBlock};
 ghost use Rattle.kernel.specs.Trees.{tree_at};
@@ -13,6 +16,7 @@ ghost use Rattle.run_ops.specs.States.{state};
 ghost use Rattle.run_ops.specs.Layout.{layout, Whole};
 ghost use Rattle.run_blocks.specs.View.{Stands, Due, placed, ran, head, taken};
 
+use forms::Loop;
 use kernel::refusals::Reason;
 use parts::RecordTable;
 use parts::statements::Statement;
@@ -63,7 +67,7 @@ pub fn run_block(
 {
     let mut i = from;
     // A `while`: which record comes next is found by `next_of`.
-    while let Ok(s) = Statement::try_from(records.record(i)) {
+    while let Ok(s) = records.statement(i) {
         if matches!(s, Statement::Else | Statement::End) {
             break;
         }
@@ -90,19 +94,57 @@ fn run_statement(
         × Whole output.new }
 {
     match s {
-        Statement::Does(o) => stuck_at(run_ops::perform(o, a, arrays, machine, output), i),
-        Statement::For(l) => {
-            for m in 0..l.passes {
-                let b = a.in_pass(*l, m);
-                run_block(records, i + 1, &b, arrays, machine, output)?;
-            }
-            Ok(())
-        }
-        Statement::If(p) => {
-            let w = stuck_at(machine.word(*p), i)?;
-            let b = a.in_if();
-            run_block(records, chosen(records, i, w), &b, arrays, machine, output)
-        }
+        // Nearly every statement goes on: a place is made only for a reason to stick.
+        Statement::Does(o) => match run_ops::perform(o, a, arrays, machine, output) {
+            Ok(()) => Ok(()),
+            stuck => stuck_at(stuck, i),
+        },
+        Statement::For(l) => run_loop(records, i, *l, a, arrays, machine, output),
+        Statement::If(p) => run_branch(records, i, *p, a, arrays, machine, output),
         Statement::Else | Statement::End => Ok(()),
     }
+}
+
+// Runs the passes of the for at record i.
+#[cycle(run_block_run_statement)]
+fn run_loop(
+    records: RecordTable,
+    i: usize,
+    l: Loop,
+    a: &Counters,
+    arrays: &Layout,
+    machine: &mut State,
+    output: &mut [u8],
+) -> Result<(), Stuck>
+    requires { Due (rows records) i (File.for (loop l)) a.now × CountersSmall a.now × Whole output.old }
+    ensures { (ran result (state machine.new (words output.new))
+        ≡ head (layout arrays.now) (tree_at (rows records.entry) i) (counters a.now) (state machine.old (words output.old)))
+        × Whole output.new }
+{
+    for m in 0..l.passes {
+        let b = a.in_pass(l, m);
+        run_block(records, i + 1, &b, arrays, machine, output)?;
+    }
+    Ok(())
+}
+
+// Runs the block that the if at record i takes by register p.
+#[cycle(run_block_run_statement)]
+fn run_branch(
+    records: RecordTable,
+    i: usize,
+    p: usize,
+    a: &Counters,
+    arrays: &Layout,
+    machine: &mut State,
+    output: &mut [u8],
+) -> Result<(), Stuck>
+    requires { Due (rows records) i (File.if p) a.now × CountersSmall a.now × Whole output.old }
+    ensures { (ran result (state machine.new (words output.new))
+        ≡ head (layout arrays.now) (tree_at (rows records.entry) i) (counters a.now) (state machine.old (words output.old)))
+        × Whole output.new }
+{
+    let w = stuck_at(machine.word(p), i)?;
+    let b = a.in_if();
+    run_block(records, chosen(records, i, w), &b, arrays, machine, output)
 }

@@ -2,7 +2,6 @@
 #![tactic(auto)]
 
 ghost use Rattle.std.specs.Prelude.{◌≡◌, ◌≤◌, ◌<◌, length};
-ghost use Rattle.kernel.specs.Named.{code};
 ghost use Rattle.kernel.specs.Blocks.{said};
 ghost use Rattle.parts.specs.Statements.{statement};
 ghost use Rattle.parts.specs.Tables.{rows};
@@ -15,16 +14,20 @@ use parts::RecordTable;
 use parts::statements::Statement;
 
 // The elses and ends to pass over after a record of this code.
-fn depth_after(depth: usize, c: Code) -> usize
-    requires { (depth ≤ 2048) × (10 ≤ code c → 1 ≤ depth) }
-    ensures { result ≡ View.depth_after depth (code c) }
+fn depth_after(depth: usize, code: u32) -> usize
+    requires { (depth ≤ 2048) × (10 ≤ code → 1 ≤ depth) }
+    ensures { result ≡ View.depth_after depth code }
 {
-    match c {
-        Code::For => depth + 1,
-        Code::If => depth + 2,
-        Code::Else | Code::End => depth - 1,
-        _ => depth,
+    if code == u32::from(Code::For) {
+        return depth + 1;
     }
+    if code == u32::from(Code::If) {
+        return depth + 2;
+    }
+    if code >= u32::from(Code::Else) {
+        return depth - 1;
+    }
+    depth
 }
 
 // The else or end at which the block stops that begins at record i.
@@ -33,14 +36,13 @@ pub fn end_of(records: RecordTable, i: usize) -> usize
     ensures { result ≡ stop_of (tree_at (rows records.entry) i) }
 {
     let mut depth = 0;
+    // Codes are compared as numbers: a run may pass over more records than it runs.
     for j in i..records.part.count {
-        let Ok(c) = Code::try_from(records.code(j)) else {
-            break;
-        };
-        if depth == 0 && matches!(c, Code::Else | Code::End) {
+        let code = records.code(j);
+        if code >= u32::from(Code::Else) && depth == 0 {
             return j;
         }
-        depth = depth_after(depth, c);
+        depth = depth_after(depth, code);
     }
     records.part.count
 }

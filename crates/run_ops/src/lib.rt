@@ -1,9 +1,9 @@
 // Statements that hold no block: registers, cells of arrays and items of streams.
 #![tactic(auto)]
 
-ghost use Rattle.std.specs.Prelude.{◌≡◌, List, ℕ, ◌+◌, ◌<◌, ◌^◌, nat_abs, OnOk};
+ghost use Rattle.std.specs.Prelude.{◌≡◌, List, ℕ, ◌+◌, ◌<◌, ◌^◌, nat_abs, Ok, OnOk};
 ghost use Rattle.numbers.specs.Words.{words};
-ghost use Rattle.forms.specs.Code.{form};
+ghost use Rattle.forms.specs.Code.{form, Within};
 ghost use Rattle.kernel.specs.File as File;
 ghost use Rattle.kernel.specs.Machine as Machine;
 ghost use Rattle.kernel.specs.Named.{reason};
@@ -70,18 +70,17 @@ fn result(o: Operator, a: u32, b: u32) -> Result<u32, Reason>
 }
 
 // Set register p to the form's low 32 bits.
-fn set(p: usize, f: Form, a: &Counters, machine: &mut State) -> Result<(), Reason>
-    requires { Performs (File.set p (form f)) × CountersSmall a.now }
+pub fn set(p: usize, f: Form, a: &Counters, machine: &mut State)
+    requires { (p < 48) × Within (2 ^ 50) (2 ^ 33) f × CountersSmall a.now }
     ensures { (e : Machine.Layout) (ws : List ℕ) →
-        Steps e (counters a.now) (File.set p (form f)) result (state machine.old ws) (state machine.new ws) }
+        Steps e (counters a.now) (File.set p (form f)) (Ok tt) (state machine.old ws) (state machine.new ws) }
 {
     machine.registers[p] = Some(numbers::low32(f.value(a.values)));
-    Ok(())
 }
 
 // Copy register q into p.
-fn copy(p: usize, q: usize, machine: &mut State) -> Result<(), Reason>
-    requires { Performs (File.copy p q) }
+pub fn copy(p: usize, q: usize, machine: &mut State) -> Result<(), Reason>
+    requires { (p < 48) × (q < 48) }
     ensures { (e : Machine.Layout) (c : Machine.Counters) (ws : List ℕ) →
         Steps e c (File.copy p q) result (state machine.old ws) (state machine.new ws) }
 {
@@ -90,8 +89,8 @@ fn copy(p: usize, q: usize, machine: &mut State) -> Result<(), Reason>
 }
 
 // p := q operator k.
-fn work(o: Operator, p: usize, q: usize, k: usize, machine: &mut State) -> Result<(), Reason>
-    requires { Performs (File.work (operator o) p q k) }
+pub fn work(o: Operator, p: usize, q: usize, k: usize, machine: &mut State) -> Result<(), Reason>
+    requires { (p < 48) × (q < 48) × (k < 48) }
     ensures { (e : Machine.Layout) (c : Machine.Counters) (ws : List ℕ) →
         Steps e c (File.work (operator o) p q k) result (state machine.old ws) (state machine.new ws) }
 {
@@ -100,7 +99,7 @@ fn work(o: Operator, p: usize, q: usize, k: usize, machine: &mut State) -> Resul
 }
 
 // Load p from array q at the form.
-fn load(
+pub fn load(
     p: usize,
     q: usize,
     f: Form,
@@ -108,7 +107,7 @@ fn load(
     arrays: &Layout,
     machine: &mut State,
 ) -> Result<(), Reason>
-    requires { Performs (File.load p q (form f)) × CountersSmall a.now }
+    requires { (p < 48) × (q < 8) × Within (2 ^ 50) (2 ^ 33) f × CountersSmall a.now }
     ensures { (ws : List ℕ) →
         Steps (layout arrays.now) (counters a.now) (File.load p q (form f)) result (state machine.old ws) (state machine.new ws) }
 {
@@ -118,7 +117,7 @@ fn load(
 }
 
 // Store p into array q at the form.
-fn store(
+pub fn store(
     p: usize,
     q: usize,
     f: Form,
@@ -127,9 +126,9 @@ fn store(
     machine: &State,
     output: &mut [u8],
 ) -> Result<(), Reason>
-    requires { Performs (File.store p q (form f)) × CountersSmall a.now × Whole output.old }
-    ensures { Steps (layout arrays.now) (counters a.now) (File.store p q (form f)) result
-        (state machine.now (words output.old)) (state machine.now (words output.new))
+    requires { (p < 48) × (q < 8) × Within (2 ^ 50) (2 ^ 33) f × CountersSmall a.now × Whole output.old }
+    ensures { ((m : List ℕ) → Steps (record (layout arrays.now) { input = m }) (counters a.now) (File.store p q (form f)) result
+        (state machine.now (words output.old)) (state machine.now (words output.new)))
         × Whole output.new }
 {
     let v = machine.word(p)?;
@@ -139,8 +138,8 @@ fn store(
 }
 
 // Read the next item of stream q into p.
-fn read(p: usize, q: usize, arrays: &Layout, machine: &mut State) -> Result<(), Reason>
-    requires { Performs (File.read p q) }
+pub fn read(p: usize, q: usize, arrays: &Layout, machine: &mut State) -> Result<(), Reason>
+    requires { (p < 48) × (q < 8) }
     ensures { (c : Machine.Counters) (ws : List ℕ) →
         Steps (layout arrays.now) c (File.read p q) result (state machine.old ws) (state machine.new ws) }
 {
@@ -152,15 +151,15 @@ fn read(p: usize, q: usize, arrays: &Layout, machine: &mut State) -> Result<(), 
 }
 
 // Write p to stream q.
-fn write(
+pub fn write(
     p: usize,
     q: usize,
     arrays: &Layout,
     machine: &mut State,
     output: &mut [u8],
 ) -> Result<(), Reason>
-    requires { Performs (File.write p q) × Whole output.old }
-    ensures { ((c : Machine.Counters) → Steps (layout arrays.now) c (File.write p q) result
+    requires { (p < 48) × (q < 8) × Whole output.old }
+    ensures { ((c : Machine.Counters) (m : List ℕ) → Steps (record (layout arrays.now) { input = m }) c (File.write p q) result
         (state machine.old (words output.old)) (state machine.new (words output.new)))
         × Whole output.new }
 {
@@ -186,7 +185,10 @@ pub fn perform(
         × Whole output.new }
 {
     match *o {
-        Op::Set(p, f) => set(p, f, a, machine),
+        Op::Set(p, f) => {
+            set(p, f, a, machine);
+            Ok(())
+        }
         Op::Copy(p, q) => copy(p, q, machine),
         Op::Work(operator, p, q, k) => work(operator, p, q, k, machine),
         Op::Load(p, q, f) => load(p, q, f, a, arrays, machine),

@@ -9,9 +9,10 @@ pub loop-i-preserved : goal.loop-i-preserved
 loop-i-preserved c =
     let s = c.args in
     let i = c.loop-i.i in
+    let v = c.loop-i.invariant in
     let e = c.record.ensures in
     let f = c.form in (
-      row_written s.records s.from i e File.form f.result c.requires.0 c.loop-i-test.true (omega arith) f.ensures c.loop-i.invariant.0,
-      position_put c.loop-i.positions i f.result (form_small f.ensures (row_small s.records s.from i e c.requires.2)) c.loop-i.invariant.1,
-      simp length-set c.loop-i.invariant.2,
+      row_written s.records s.from i e File.form f.result c.requires.0 c.loop-i-test.true (omega arith) f.ensures v.0,
+      v.1,
+      record { whole = (simp length-set v.2.whole.0, v.2.whole.1); at_position = position_put c.loop-i.l.positions i f.result (form_small f.ensures (row_small s.records s.from i e c.requires.2)) v.2.at_position; at_buffer = v.2.at_buffer },
     )

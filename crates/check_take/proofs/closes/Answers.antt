@@ -4,6 +4,7 @@ use borrow.Author.Rules.{rules}
 use Rattle.std.proofs.Common.{Ok}
 use Rattle.parts.proofs.Parts.{few}
 use Rattle.check_take.specs.View.{due}
+use Rattle.check_take.proofs.Decoded.{no_other}
 use Rattle.check_take.proofs.Comes.{fits_next}
 use Rattle.check_take.proofs.closes.Goals.{Then-eq}
 use Rattle.check_take.proofs.closes.Goals as goal
@@ -18,7 +19,7 @@ module _ (c : Then-eq) where
 pub fits-requires : goal.fits-requires
 fits-requires c =
     let k = c.args.kernel in
-    (c.requires.1, (few k.file.now k.counts k.reads).registers)
+    (no_other c.requires.1, (few k.file.now k.counts k.reads).registers)
 
 pub returns-then-eq : goal.returns-then-eq
 returns-then-eq c =

@@ -25,7 +25,8 @@ use Rattle.parts.specs.Tables.{rows}
 use Rattle.parts.proofs.Parts.{few, derivation_is, arrays_count, buffers_are}
 use Rattle.check_ledger.specs.View.{ledger}
 use Rattle.check_rows.specs.View.{SmallForms}
-use Rattle.check_rows.specs.Changes.{counted}
+use Rattle.check_rows.specs.Changes.{Stated, counted}
+use Rattle.check_rows.proofs.Stating.{zeros_stated}
 use Rattle.check_rules.proofs.Needs.{need_fails, need_holds}
 use Rattle.check_take.specs.View.{held_by, place, loop_there, Onward, ReadsOn, Enters}
 use Rattle.check_take.proofs.Came.{refuses, need_stops, need_goes, refused_so, same_place}
@@ -81,12 +82,12 @@ module _ (c : After-derivation-records) where
 module _ (c : After-for_loop-first) where
   -- the rows' ledger is the one that the definition states
   stated_there : records_in c.args.kernel.file.now (derivation_part c.args.kernel.counts) ≡ rows c.derivation-records.result → (os : List Opened)
-      → ledger c.args.kernel.counts.a c.args.kernel.counts.b c.after-rows.result.ledger
+      → ledger c.args.kernel.counts.a c.args.kernel.counts.b c.state.new.l
       ≡ Derivation.stated (held_by c.args.kernel) (Derivation.hold_rows (held_by c.args.kernel) (place c.args.kernel.counts.a c.args.kernel.counts.b os c.args.at c.args.l.now))
   stated_there are os =
       let k = c.args.kernel in
       let file = k.file.now in
-      c.after-rows.ensures.0 (held_by k) (place k.counts.a k.counts.b os c.args.at c.args.l.now) (derivation_is file k.counts ∙ are) (arrays_count file k.counts) (buffers_are file k.counts) refl
+      c.state.ensures.0 (held_by k) (place k.counts.a k.counts.b os c.args.at c.args.l.now) (derivation_is file k.counts ∙ are) (arrays_count file k.counts) (buffers_are file k.counts) refl
 
   first_is : back c.for_loop-first.result.first ≡ (loop_there c.args.kernel c.args.at).first
   first_is =
@@ -94,12 +95,14 @@ module _ (c : After-for_loop-first) where
 
 -- the second is whether the rows are true at first
 module _ (c : After-are_true) where
-  abbrev at_first : (a b : ℕ) → ℤ → Bool
-  at_first a b z = L.rows_true (loops c.args.around) (L.each (F.put_at c.args.around.count z) (ledger a b c.after-rows.result.ledger)) (ledger a b c.args.l.now)
+  abbrev at_first : ℤ → Bool
+  at_first z =
+      let k = c.args.kernel.counts in
+      L.rows_true (loops c.args.around) (L.each (F.put_at c.args.around.count z) (ledger k.a k.b c.state.new.l)) (ledger k.a k.b c.args.l.now)
 
-  held : {first : ℤ} → back c.for_loop-first.result.first ≡ first → c.are_true.result ≡ at_first c.args.kernel.counts.a c.args.kernel.counts.b first
+  held : {first : ℤ} → back c.for_loop-first.result.first ≡ first → c.are_true.result ≡ at_first first
   unfolding counted
-  held e = c.are_true.ensures ∙ (λ i. at_first (c.after-rows.ensures.1 i) (c.after-rows.ensures.2 i) (e i))
+  held e = c.are_true.ensures ∙ ap at_first e
 
 -- ---- the needs
 
@@ -124,17 +127,23 @@ returns-in_err-need c =
       enters = λ to. refuses is;
     }
 
-pub after-rows-requires : goal.after-rows-requires
-after-rows-requires c =
+pub state-requires : goal.state-requires
+state-requires c =
     let k = c.args.kernel in
-    let g = goal.at.after-rows-requires c in
+    let g = goal.at.state-requires c in
     let f = few k.file.now k.counts k.reads in
     let count = ap (λ (p : Part). p.count) (c.derivation-records.ensures.1 ∙ ap derivation_part c.sections.ensures.1) in (
       subst (λ n. c.args.at.rule + 1 + k.counts.a + k.counts.b ≤ n) (sym count) (rows_there k c.args.at c.args.l.now (blocks g.In_ok-need) (some g.In_ok-need) c.requires.0.there),
       f.arrays,
       f.buffers,
-      subst SmallForms (records_are c) (small_forms k.file.now k.counts k.reads),
+      subst SmallForms (records_are g.After-derivation-records) (small_forms k.file.now k.counts k.reads),
+      subst Stated (sym c.fresh-stated.ensures) zeros_stated,
     )
+
+pub invariant_of-rows : goal.invariant_of-rows
+invariant_of-rows c =
+    let f = few c.args.kernel.file.now c.args.kernel.counts c.args.kernel.reads in
+    record { stated = c.state.ensures.1; few_arrays = f.arrays; few_buffers = f.buffers }
 
 pub invariant_of-change : goal.invariant_of-change
 invariant_of-change c =
@@ -166,7 +175,7 @@ returns c =
     let k = c.args.kernel in
     let at = c.args.at in
     let l = c.args.l.now in
-    let m = c.after-rows.result.ledger in
+    let m = c.state.new.l in
     let g = goal.at.returns c in
     let first = g.After-for_loop-first in
     let so = sym (held g.After-are_true (first_is first)) ∙ need_goes _ _ c.are_true.result c.need-2.ensures c.in_ok-need-2.was in
@@ -175,7 +184,7 @@ returns c =
       as_defined = λ os o.
           let level = level_of g.Start os o in
           went_in k at l os _ m (fit k os at l For c.requires.2 (goes g.In_ok-need os level) (for_enters k at l os c.args.around.count (loops c.args.around) _ level o (stated_there first (records_are g.After-derivation-records) os) ∙ need_holds 14 _ _ so));
-      onward = λ to e. subst (λ to. Onward k.counts at to m) (same_place e) (for_onward k at l (blocks g.In_ok-need) (some g.In_ok-need) m c.requires.0.stood c.requires.0.there whole c.after-rows.result.stated);
-      stated = λ to e. c.after-rows.result.stated;
+      onward = λ to e. subst (λ to. Onward k.counts at to m) (same_place e) (for_onward k at l (blocks g.In_ok-need) (some g.In_ok-need) m c.requires.0.stood c.requires.0.there whole c.state.ensures.1);
+      stated = λ to e. c.state.ensures.1;
       enters = λ to e. subst (λ to. (opens : List Open) → ReadsOn k opens at → Enters k opens at to) (same_place e) (enters k at l (blocks g.In_ok-need) (some g.In_ok-need));
     }

@@ -29,7 +29,7 @@ use Rattle.check_take.proofs.leave_for.Goals as goal
 
 module _ (s : Start) where
   abbrev rows : L.Ledger
-  rows = ledger s.args.kernel.counts.a s.args.kernel.counts.b s.args.rows.now.ledger
+  rows = ledger s.args.kernel.counts.a s.args.kernel.counts.b s.args.rows.ledger.now
 
   abbrev level : ℕ
   level = s.args.inside.count - 1
@@ -50,7 +50,7 @@ module _ (c : In_ok-need) where
 -- the second test is whether the rows hold a step on
 module _ (c : After-are_true) where
   abbrev tested : (a b : ℕ) → ℤ → Bool
-  tested a b z = L.rows_true (loops c.args.inside) (L.each (F.moved_by (c.args.inside.count - 1) z) (ledger a b c.args.rows.now.ledger)) (ledger a b c.args.l.now)
+  tested a b z = L.rows_true (loops c.args.inside) (L.each (F.moved_by (c.args.inside.count - 1) z) (ledger a b c.args.rows.ledger.now)) (ledger a b c.args.l.now)
 
   held : c.are_true.result ≡ tested c.args.kernel.counts.a c.args.kernel.counts.b c.args.own.step
   unfolding counted
@@ -62,7 +62,7 @@ module _ (c : After-leave) where
   left = c.leave.new.l
 
   abbrev put : (a b : ℕ) → ℤ → L.Ledger
-  put a b z = L.each (F.put_at (c.args.inside.count - 1) z) (ledger a b c.args.rows.now.ledger)
+  put a b z = L.each (F.put_at (c.args.inside.count - 1) z) (ledger a b c.args.rows.ledger.now)
 
   at_limit : ledger c.args.kernel.counts.a c.args.kernel.counts.b left ≡ put c.args.kernel.counts.a c.args.kernel.counts.b (F.limit (loop c.args.own))
   unfolding counted

@@ -13,6 +13,7 @@ use Rattle.check_rules.proofs.Effects.{PlainRule}
 use Rattle.check_rules.proofs.Needs.{need_stopped, need_went, answers_so, no_misfit}
 use Rattle.check_take.specs.declared.Place as Code
 use Rattle.check_take.specs.View.{held_by, fits_there, Next}
+use Rattle.check_take.proofs.Decoded.{no_other}
 use Rattle.check_take.proofs.Comes.{fits_next, here, unfit, comes}
 use Rattle.check_take.proofs.Statements.{level_at, named_next}
 use Rattle.check_take.proofs.Going.{rule_reads}
@@ -36,7 +37,7 @@ module _ (c : In_ok-need) where
 pub fits-requires : goal.fits-requires
 fits-requires c =
     let k = c.args.kernel in
-    (c.requires.1.no_for, (few k.file.now k.counts k.reads).registers)
+    (no_other c.requires.1.no_for, (few k.file.now k.counts k.reads).registers)
 
 pub returns-in_err-need : goal.returns-in_err-need
 unfolding misfit ◌>>=◌

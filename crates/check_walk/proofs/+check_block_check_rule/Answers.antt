@@ -1,4 +1,4 @@
--- The cycle {check_block, check_rule} meets its contracts, by the laws of `Walks` and `Stretches`.
+-- The cycle {check_block, check_rule, check_for, check_if} meets its contracts, by the laws of `Walks` and `Stretches`.
 use Prim.Native.Nat.{ℕ}
 use mathlib.Core.Path.{◌≡◌, refl, sym, ap, subst, ◌∙◌}
 use mathlib.Core.Logic.{◌⊎◌, inl, inr}
@@ -16,12 +16,12 @@ use Rattle.parts.proofs.Parts.{few}
 use Rattle.parts.proofs.Room.{loop_room}
 use Rattle.check_take.specs.declared.Place.{Place}
 use Rattle.check_ledger.proofs.Bounds.{bounded_wider}
-use Rattle.check_take.specs.View.{with_ledger, due, loop_there, Closing, Enters, Turned}
+use Rattle.check_take.specs.View.{standing, with_ledger, due, loop_there, Closing, Enters, EnteredFor, Turned}
 use Rattle.check_take.proofs.Came.{refuses}
 use Rattle.check_walk.specs.View.{RuleWalked}
 use Rattle.check_walk.proofs.Walks.{passed_on, goes_none, goes_then, goes_missing}
 use Rattle.check_walk.proofs.Stretches.{further_none, rule_then, block_then, opens_for, opens_if, opens_else, closes_inside, stops_inside, for_entered, for_body, for_left, if_entered, if_first, if_turned, if_second, if_left}
-use Rattle.check_walk.proofs.+check_block_check_rule.Goals.{check_block-After-check_rule, check_rule-In_ok-body-in-For, check_rule-After-for_loop-own, check_rule-After-turn}
+use Rattle.check_walk.proofs.+check_block_check_rule.Goals.{check_block-After-check_rule, check_rule-In_ok-body-in-For, check_for-Start, check_for-After-for_loop-own, check_if-After-turn}
 use Rattle.check_walk.proofs.+check_block_check_rule.Goals as goal
 
 -- ---- a block
@@ -84,73 +84,85 @@ check_rule-returns-in_err-body-in-For t c =
 
 -- entered
 module _ (t : ℕ) (c : check_rule-In_ok-body-in-For t) where
-  for_enters : Enters c.args.kernel c.requires.3.opens c.args.at c.in_ok-body-in-For.body
-  for_enters = c.enter_for.ensures.enters c.in_ok-body-in-For.body c.in_ok-body-in-For.was c.requires.3.opens c.requires.3.reads_on
+  entered_there : EnteredFor c.args.kernel c.args.at c.args.l.now (loops c.args.ls) (standing c.in_ok-body-in-For.body c.enter_for.new.l)
+  entered_there = subst (λ r. EnteredFor c.args.kernel c.args.at c.args.l.now (loops c.args.ls) (with_ledger r c.enter_for.new.l)) c.in_ok-body-in-For.was c.enter_for.ensures
+
+pub check_rule-check_for-requires : goal.check_rule-check_for-requires
+check_rule-check_for-requires t c =
+    let E = entered_there t (goal.at.check_rule-check_for-requires t c).In_ok-body-in-For in
+    (omega (arith, c.decreases), ((c.args.l.now, c.requires.0, E), c.requires.1, c.requires.2, c.requires.3))
+
+pub check_rule-returns-in_ok-body-in-For : goal.check_rule-returns-in_ok-body-in-For
+check_rule-returns-in_ok-body-in-For t c =
+    c.check_for.ensures c.args.l.now c.requires.0 (entered_there t (goal.at.check_rule-returns-in_ok-body-in-For t c).In_ok-body-in-For)
+
+module _ (t : ℕ) (c : check_for-Start t) where
+  for_enters : Enters c.args.kernel c.requires.3.opens c.args.at c.args.body
+  for_enters = c.requires.0.2.enters c.args.body refl c.requires.3.opens c.requires.3.reads_on
 
 -- its loop has been read
-module _ (t : ℕ) (c : check_rule-After-for_loop-own t) where
+module _ (t : ℕ) (c : check_for-After-for_loop-own t) where
   for_same : loop c.for_loop-own.result ≡ loop_there c.args.kernel c.args.at
   for_same = c.for_loop-own.ensures ∙ ap loop_of c.array_next.ensures
 
   for_fits : LoopFits (loop c.for_loop-own.result)
-  for_fits = subst LoopFits (sym for_same) (c.enter_for.ensures.enters c.in_ok-body-in-For.body c.in_ok-body-in-For.was c.requires.3.opens c.requires.3.reads_on).fits
+  for_fits = subst LoopFits (sym for_same) (c.requires.0.2.enters c.args.body refl c.requires.3.opens c.requires.3.reads_on).fits
 
-pub check_rule-deeper-inner-requires : goal.check_rule-deeper-inner-requires
-check_rule-deeper-inner-requires t c =
-    let at = goal.at.check_rule-deeper-inner-requires t c in
-    (omega (arith, (for_enters t at.In_ok-body-in-For).room, c.requires.3.level), c.requires.1, loop_room c.for_loop-own.result (for_fits t at.After-for_loop-own))
+pub check_for-deeper-inner-requires : goal.check_for-deeper-inner-requires
+check_for-deeper-inner-requires t c =
+    let at = goal.at.check_for-deeper-inner-requires t c in
+    (omega (arith, (for_enters t at.Start).room, c.requires.3.level), c.requires.1, loop_room c.for_loop-own.result (for_fits t at.After-for_loop-own))
 
-pub check_rule-check_block-requires : goal.check_rule-check_block-requires
-check_rule-check_block-requires t c =
+pub check_for-check_block-requires : goal.check_for-check_block-requires
+check_for-check_block-requires t c =
     let d = c.deeper-inner in
-    let enters = for_enters t (goal.at.check_rule-check_block-requires t c).In_ok-body-in-For in
-    let on = c.enter_for.ensures.onward c.in_ok-body-in-For.body c.in_ok-body-in-For.was in (
-      omega (arith, c.decreases, on.further_on, c.requires.0.there),
+    let enters = for_enters t (goal.at.check_for-check_block-requires t c).Start in
+    let on = c.requires.0.2.onward c.args.body refl in (
+      omega (arith, c.decreases, on.further_on, c.requires.0.1.there),
       (on.stood, d.ensures.1, omega (arith, d.ensures.2, enters.room, c.requires.3.level), opens_for c.requires.3 enters d.ensures.2),
     )
 
-pub check_rule-returns-in_err-end-in-For : goal.check_rule-returns-in_err-end-in-For
-check_rule-returns-in_err-end-in-For t c =
-    let at = goal.at.check_rule-returns-in_err-end-in-For t c in
+pub check_for-returns-in_err-end : goal.check_for-returns-in_err-end
+check_for-returns-in_err-end t c start there E =
+    let at = goal.at.check_for-returns-in_err-end t c in
     let k = c.args.kernel in
-    let b = c.requires.0 in
     let v = c.check_block in
     let end = with_ledger v.result v.new.l in
-    let was = c.in_err-end-in-For.was in
-    stops_inside k b c.args.ls end _ _ (for_body k b c.args.ls c.enter_for.ensures c.deeper-inner.result c.for_loop-own.result (for_same t at.After-for_loop-own) c.deeper-inner.ensures.0 c.in_ok-body-in-For.was end v.ensures) was (passed_on was c.from_residual-in_err-end-in-For.ensures.1)
+    let was = c.in_err-end.was in
+    stops_inside k there c.args.ls end _ _ (for_body k there c.args.ls E c.deeper-inner.result c.for_loop-own.result (for_same t at.After-for_loop-own) c.deeper-inner.ensures.0 refl end v.ensures) was (passed_on was c.from_residual.ensures.1)
 
-pub check_rule-invariant_of-rows : goal.check_rule-invariant_of-rows
-check_rule-invariant_of-rows t c =
+pub check_for-invariant_of-rows : goal.check_for-invariant_of-rows
+check_for-invariant_of-rows t c =
     let m = few c.args.kernel.file.now c.args.kernel.counts c.args.kernel.reads in
-    record { stated = c.enter_for.ensures.stated c.in_ok-body-in-For.body c.in_ok-body-in-For.was; few_arrays = m.arrays; few_buffers = m.buffers }
+    record { stated = c.requires.0.2.stated c.args.body refl; few_arrays = m.arrays; few_buffers = m.buffers }
 
-pub check_rule-leave_for-requires : goal.check_rule-leave_for-requires
-check_rule-leave_for-requires t c =
-    let at = goal.at.check_rule-leave_for-requires t c in
-    let (there, code) = closes_inside (c.check_block.ensures.1 c.in_ok-end-in-For.end c.in_ok-end-in-For.was) in
+pub check_for-leave_for-requires : goal.check_for-leave_for-requires
+check_for-leave_for-requires t c =
+    let at = goal.at.check_for-leave_for-requires t c in
+    let (there, code) = closes_inside (c.check_block.ensures.1 c.in_ok-end.end c.in_ok-end.was) in
     let d = c.deeper-inner.ensures.2 in
-    (there, code, refl, refl, for_fits t at.After-for_loop-own, omega (arith, d), omega (arith, d, (for_enters t at.In_ok-body-in-For).room, c.requires.3.level))
+    (there, code, refl, refl, for_fits t at.After-for_loop-own, omega (arith, d), omega (arith, d, (for_enters t at.Start).room, c.requires.3.level))
 
-pub check_rule-returns-in_ok-end-in-For : goal.check_rule-returns-in_ok-end-in-For
-check_rule-returns-in_ok-end-in-For t c =
-    let at = goal.at.check_rule-returns-in_ok-end-in-For t c in
+pub check_for-returns : goal.check_for-returns
+check_for-returns t c start there E =
+    let at = goal.at.check_for-returns t c in
     let v = c.check_block in
-    for_left c.args.kernel c.requires.0 c.args.ls c.enter_for.ensures c.deeper-inner.result c.for_loop-own.result (for_same t at.After-for_loop-own) c.deeper-inner.ensures.0 c.in_ok-body-in-For.was (with_ledger v.result v.new.l) v.ensures c.in_ok-end-in-For.was c.leave_for.ensures
+    for_left c.args.kernel there c.args.ls E c.deeper-inner.result c.for_loop-own.result (for_same t at.After-for_loop-own) c.deeper-inner.ensures.0 refl (with_ledger v.result v.new.l) v.ensures c.in_ok-end.was c.leave_for.ensures
 
 -- ---- an if
 
-pub check_rule-returns-in_err-branch-in-If : goal.check_rule-returns-in_err-branch-in-If
-check_rule-returns-in_err-branch-in-If t c =
+pub check_if-returns-in_err-branch : goal.check_if-returns-in_err-branch
+check_if-returns-in_err-branch t c =
     let k = c.args.kernel in
     let b = c.requires.0 in
     let l = c.args.l.now in
-    let was = c.in_err-branch-in-If.was in
-    stops_inside k b c.args.ls (with_ledger c.enter_if.result l) _ _ (if_entered k b c.args.ls (c.enter_if.ensures l b)) was (passed_on was c.from_residual-in_err-branch-in-If.ensures.1)
+    let was = c.in_err-branch.was in
+    stops_inside k b c.args.ls (with_ledger c.enter_if.result l) _ _ (if_entered k b c.args.ls (c.enter_if.ensures l b)) was (passed_on was c.from_residual.ensures.1)
 
-pub check_rule-check_block-requires-in-If : goal.check_rule-check_block-requires-in-If
-check_rule-check_block-requires-in-If t c =
+pub check_if-check_block-requires : goal.check_if-check_block-requires
+check_if-check_block-requires t c =
     let p = c.requires in
-    let branch = c.in_ok-branch-in-If in
+    let branch = c.in_ok-branch in
     let E = c.enter_if.ensures c.args.l.now p.0 in
     let on = E.onward branch.branch branch.was in (
       omega (arith, c.decreases, on.further_on, p.0.there),
@@ -158,49 +170,49 @@ check_rule-check_block-requires-in-If t c =
     )
 
 -- what its first branch comes to
-pub check_rule-returns-in_err-middle-in-If : goal.check_rule-returns-in_err-middle-in-If
-check_rule-returns-in_err-middle-in-If t c =
+pub check_if-returns-in_err-middle : goal.check_if-returns-in_err-middle
+check_if-returns-in_err-middle t c =
     let k = c.args.kernel in
     let b = c.requires.0 in
-    let v = c.check_block-in-If in
+    let v = c.check_block in
     let end = with_ledger v.result v.new.l in
-    let was = c.in_err-middle-in-If.was in
-    stops_inside k b c.args.ls end _ _ (if_first k b c.args.ls (c.enter_if.ensures c.args.l.now b) c.in_ok-branch-in-If.was end v.ensures) was (passed_on was c.from_residual-in_err-middle-in-If.ensures.1)
+    let was = c.in_err-middle.was in
+    stops_inside k b c.args.ls end _ _ (if_first k b c.args.ls (c.enter_if.ensures c.args.l.now b) c.in_ok-branch.was end v.ensures) was (passed_on was c.from_residual-in_err-middle.ensures.1)
 
-pub check_rule-turn-requires : goal.check_rule-turn-requires
-check_rule-turn-requires t c =
-    let (there, code) = closes_inside (c.check_block-in-If.ensures.1 c.in_ok-middle-in-If.middle c.in_ok-middle-in-If.was) in
+pub check_if-turn-requires : goal.check_if-turn-requires
+check_if-turn-requires t c =
+    let (there, code) = closes_inside (c.check_block.ensures.1 c.in_ok-middle.middle c.in_ok-middle.was) in
     ((_, there), code)
 
 -- what turning it comes to: the ledger is the one at the if
-module _ (t : ℕ) (c : check_rule-After-turn t) where
-  turns : Turned c.args.kernel c.in_ok-middle-in-If.middle c.check_block-in-If.new.l c.args.l.now (with_ledger c.turn.result c.args.l.now)
+module _ (t : ℕ) (c : check_if-After-turn t) where
+  turns : Turned c.args.kernel c.in_ok-middle.middle c.check_block.new.l c.args.l.now (with_ledger c.turn.result c.args.l.now)
   turns =
       let l = c.args.l.now in
-      let v = c.check_block-in-If in
-      let walked = v.ensures.1 c.in_ok-middle-in-If.middle c.in_ok-middle-in-If.was in
+      let v = c.check_block in
+      let walked = v.ensures.1 c.in_ok-middle.middle c.in_ok-middle.was in
       c.turn.ensures v.new.l l (closes_inside walked).0
-      (bounded_wider c.requires.0.stood.bounded (omega (arith, ((c.enter_if.ensures l c.requires.0).onward c.in_ok-branch-in-If.branch c.in_ok-branch-in-If.was).further_on, walked.0.further_on)))
+      (bounded_wider c.requires.0.stood.bounded (omega (arith, ((c.enter_if.ensures l c.requires.0).onward c.in_ok-branch.branch c.in_ok-branch.was).further_on, walked.0.further_on)))
 
-pub check_rule-returns-in_err-other-in-If : goal.check_rule-returns-in_err-other-in-If
-check_rule-returns-in_err-other-in-If t c =
-    let at = goal.at.check_rule-returns-in_err-other-in-If t c in
+pub check_if-returns-in_err-other : goal.check_if-returns-in_err-other
+check_if-returns-in_err-other t c =
+    let at = goal.at.check_if-returns-in_err-other t c in
     let k = c.args.kernel in
     let b = c.requires.0 in
-    let v = c.check_block-in-If in
-    let was = c.in_err-other-in-If.was in
-    stops_inside k b c.args.ls (with_ledger c.turn.result c.args.l.now) _ _ (if_turned k b c.args.ls (c.enter_if.ensures c.args.l.now b) c.in_ok-branch-in-If.was (with_ledger v.result v.new.l) v.ensures c.in_ok-middle-in-If.was (turns t at.After-turn)) was (passed_on was c.from_residual-in_err-other-in-If.ensures.1)
+    let v = c.check_block in
+    let was = c.in_err-other.was in
+    stops_inside k b c.args.ls (with_ledger c.turn.result c.args.l.now) _ _ (if_turned k b c.args.ls (c.enter_if.ensures c.args.l.now b) c.in_ok-branch.was (with_ledger v.result v.new.l) v.ensures c.in_ok-middle.was (turns t at.After-turn)) was (passed_on was c.from_residual-in_err-other.ensures.1)
 
-pub check_rule-check_block-requires-in-If-2 : goal.check_rule-check_block-requires-in-If-2
-check_rule-check_block-requires-in-If-2 t c =
-    let at = goal.at.check_rule-check_block-requires-in-If-2 t c in
+pub check_if-check_block-requires-2 : goal.check_if-check_block-requires-2
+check_if-check_block-requires-2 t c =
+    let at = goal.at.check_if-check_block-requires-2 t c in
     let p = c.requires in
     let opens = p.3 in
-    let branch = c.in_ok-branch-in-If in
+    let branch = c.in_ok-branch in
     let E = c.enter_if.ensures c.args.l.now p.0 in
-    let f = (c.check_block-in-If.ensures.1 c.in_ok-middle-in-If.middle c.in_ok-middle-in-If.was).0 in
+    let f = (c.check_block.ensures.1 c.in_ok-middle.middle c.in_ok-middle.was).0 in
     let T = turns t at.After-turn in
-    let other = c.in_ok-other-in-If in
+    let other = c.in_ok-other in
     let on = T.onward other.other other.was in
     let reads = T.reads_on other.other other.was opens.opens (f.reads_on (open_if ∷ opens.opens) (E.reads_on branch.branch branch.was opens.opens opens.reads_on)) in (
       omega (arith, c.decreases, (E.onward branch.branch branch.was).further_on, f.further_on, on.further_on, p.0.there),
@@ -208,30 +220,30 @@ check_rule-check_block-requires-in-If-2 t c =
     )
 
 -- what its second branch comes to
-pub check_rule-returns-in_err-last-in-If : goal.check_rule-returns-in_err-last-in-If
-check_rule-returns-in_err-last-in-If t c =
-    let at = goal.at.check_rule-returns-in_err-last-in-If t c in
+pub check_if-returns-in_err-last : goal.check_if-returns-in_err-last
+check_if-returns-in_err-last t c =
+    let at = goal.at.check_if-returns-in_err-last t c in
     let k = c.args.kernel in
     let b = c.requires.0 in
-    let v = c.check_block-in-If in
-    let u = c.check_block-in-If-2 in
+    let v = c.check_block in
+    let u = c.check_block-2 in
     let end = with_ledger u.result u.new.l in
-    let was = c.in_err-last-in-If.was in
-    stops_inside k b c.args.ls end _ _ (if_second k b c.args.ls (c.enter_if.ensures c.args.l.now b) c.in_ok-branch-in-If.was (with_ledger v.result v.new.l) v.ensures c.in_ok-middle-in-If.was (turns t at.After-turn) c.in_ok-other-in-If.was end u.ensures) was (passed_on was c.from_residual-in_err-last-in-If.ensures.1)
+    let was = c.in_err-last.was in
+    stops_inside k b c.args.ls end _ _ (if_second k b c.args.ls (c.enter_if.ensures c.args.l.now b) c.in_ok-branch.was (with_ledger v.result v.new.l) v.ensures c.in_ok-middle.was (turns t at.After-turn) c.in_ok-other.was end u.ensures) was (passed_on was c.from_residual-in_err-last.ensures.1)
 
-pub check_rule-leave_if-requires : goal.check_rule-leave_if-requires
-check_rule-leave_if-requires t c =
-    let at = goal.at.check_rule-leave_if-requires t c in
-    let walked = c.check_block-in-If-2.ensures.1 c.in_ok-last-in-If.last c.in_ok-last-in-If.was in
+pub check_if-leave_if-requires : goal.check_if-leave_if-requires
+check_if-leave_if-requires t c =
+    let at = goal.at.check_if-leave_if-requires t c in
+    let walked = c.check_block-2.ensures.1 c.in_ok-last.last c.in_ok-last.was in
     let (there, code) = closes_inside walked in
-    let first = (c.check_block-in-If.ensures.1 c.in_ok-middle-in-If.middle c.in_ok-middle-in-If.was).0 in
-    let on = (turns t at.After-turn).onward c.in_ok-other-in-If.other c.in_ok-other-in-If.was in
+    let first = (c.check_block.ensures.1 c.in_ok-middle.middle c.in_ok-middle.was).0 in
+    let on = (turns t at.After-turn).onward c.in_ok-other.other c.in_ok-other.was in
     (there, code, bounded_wider first.stood.bounded (omega (arith, on.further_on, walked.0.further_on)))
 
-pub check_rule-returns-in_ok-last-in-If : goal.check_rule-returns-in_ok-last-in-If
-check_rule-returns-in_ok-last-in-If t c =
-    let at = goal.at.check_rule-returns-in_ok-last-in-If t c in
+pub check_if-returns : goal.check_if-returns
+check_if-returns t c =
+    let at = goal.at.check_if-returns t c in
     let b = c.requires.0 in
-    let v = c.check_block-in-If in
-    let u = c.check_block-in-If-2 in
-    if_left c.args.kernel b c.args.ls (c.enter_if.ensures c.args.l.now b) c.in_ok-branch-in-If.was (with_ledger v.result v.new.l) v.ensures c.in_ok-middle-in-If.was (turns t at.After-turn) c.in_ok-other-in-If.was (with_ledger u.result u.new.l) u.ensures c.in_ok-last-in-If.was c.leave_if.ensures
+    let v = c.check_block in
+    let u = c.check_block-2 in
+    if_left c.args.kernel b c.args.ls (c.enter_if.ensures c.args.l.now b) c.in_ok-branch.was (with_ledger v.result v.new.l) v.ensures c.in_ok-middle.was (turns t at.After-turn) c.in_ok-other.was (with_ledger u.result u.new.l) u.ensures c.in_ok-last.was c.leave_if.ensures

@@ -1,4 +1,4 @@
--- `parts::side_in` meets its contract: an array's code, or none past the last.
+-- `parts::side_in` meets its contract: an array's code, or what stands past the last.
 use Prim.Native.Nat.{◌+◌, ◌*◌}
 use mathlib.Core.Path.{◌≡◌, sym, ap, ◌∙◌}
 use lib.ListN.{get_or}
@@ -6,24 +6,21 @@ use native.Mathlib.Omega.{arith}
 use Rattle.numbers.specs.Words.{words}
 use Rattle.numbers.specs.Areas.{word}
 use Rattle.numbers.proofs.Areas.{words_length}
-use Rattle.kernel.specs.File.{numbers}
-use Rattle.kernel.specs.Named.{sided}
-use Rattle.parts.specs.Arrays.{side_there}
+use Rattle.kernel.specs.File.{numbers, side_of}
+use Rattle.kernel.proofs.Sides.{side_nothing}
 use Rattle.parts.proofs.Records.{number_there}
 use Rattle.parts.proofs.Arrays.{array_is, array_past}
-use Rattle.parts.proofs.Siding.{kept_side}
 use Rattle.parts.proofs.side_in.Goals as goal
 
 pub returns-then-j-n : goal.returns-then-j-n
-unfolding word numbers
+unfolding word numbers side_of
 returns-then-j-n c =
     let file = c.args.file.now in
     let at = 3 + 8 * c.args.j in
     let here : at ≡ at + 0 = omega arith in
-    c.ok.ensures.value ∙ kept_side c.try_from.result ∙ ap side_there c.try_from.ensures
-    ∙ ap (λ w. side_there (sided w)) (c.whole_word.ensures ∙ ap (λ k. get_or (words file) k 0) here ∙ sym (number_there (words file) at (omega (arith, words_length file, c.requires.1, c.if-j-n.true)) 0 (omega arith)) ∙ ap (λ r. r.code) (sym (array_is file c.args.n c.args.j c.if-j-n.true)))
+    c.whole_word.ensures ∙ ap (λ k. get_or (words file) k 0) here ∙ sym (number_there (words file) at (omega (arith, words_length file, c.requires.1, c.if-j-n.true)) 0 (omega arith)) ∙ ap side_of (sym (array_is file c.args.n c.args.j c.if-j-n.true))
 
 pub returns : goal.returns
-unfolding sided side_there
 returns c =
-    sym (ap (λ r. side_there (sided r.code)) (array_past c.args.file.now c.args.n c.args.j c.if-j-n.false))
+    let a = c.args in
+    sym (ap side_of (array_past a.file.now a.n a.j c.if-j-n.false) ∙ side_nothing)

@@ -1,5 +1,5 @@
 -- `read_blocks::after` meets its contract: an arm for each statement that opens, turns or closes a block, and one for the others.
-use mathlib.Core.Path.{◌≡◌, ap, ◌∙◌}
+use mathlib.Core.Path.{◌≡◌, refl, ap, ◌∙◌}
 use native.Mathlib.Omega.{arith}
 use Rattle.forms.specs.Code.{loop}
 use Rattle.kernel.specs.File as File
@@ -30,24 +30,24 @@ opened-requires c = (omega arith, omega arith)
 
 pub returns-in-Ok-Does : goal.returns-in-Ok-Does
 unfolding statement stated after
-returns-in-Ok-Does c = c.after_op.ensures ∙ ap (λ s. after s (opens c.args.n)) (rw c.in-Ok-Does.field-0-is at c.in-Ok-Does.ensures)
+returns-in-Ok-Does c = (c.after_op.ensures ∙ ap (λ s. after s (opens c.args.n.now)) (rw c.in-Ok-Does.field-0-is at c.in-Ok-Does.ensures), λ e. refl)
 
 pub returns-in-Ok-For : goal.returns-in-Ok-For
 unfolding statement stated after
-returns-in-Ok-For c = c.for_opened.ensures ∙ ap (λ s. after s (opens c.args.n)) (rw c.in-Ok-For.field-0-is at c.in-Ok-For.ensures)
+returns-in-Ok-For c = (c.for_opened.ensures.0 ∙ ap (λ s. after s (opens c.args.n.now)) (rw c.in-Ok-For.field-0-is at c.in-Ok-For.ensures), c.for_opened.ensures.1)
 
 pub returns-in-Ok-If : goal.returns-in-Ok-If
 unfolding statement stated after block
-returns-in-Ok-If c = c.opened.ensures ∙ ap (λ s. after s (opens c.args.n)) (rw c.in-Ok-If.field-0-is at c.in-Ok-If.ensures)
+returns-in-Ok-If c = (c.opened.ensures.0 ∙ ap (λ s. after s (opens c.args.n.now)) (rw c.in-Ok-If.field-0-is at c.in-Ok-If.ensures), c.opened.ensures.1)
 
 pub returns-in-Ok-Else : goal.returns-in-Ok-Else
 unfolding statement stated after
-returns-in-Ok-Else c = c.at_else.ensures ∙ ap (λ s. after s (opens c.args.n)) (rw c.in-Ok-Else.field-0-is at c.in-Ok-Else.ensures)
+returns-in-Ok-Else c = (c.at_else.ensures.0 ∙ ap (λ s. after s (opens c.args.n.now)) (rw c.in-Ok-Else.field-0-is at c.in-Ok-Else.ensures), c.at_else.ensures.1)
 
 pub returns-in-Ok-End : goal.returns-in-Ok-End
 unfolding statement stated after
-returns-in-Ok-End c = c.at_end.ensures ∙ ap (λ s. after s (opens c.args.n)) (rw c.in-Ok-End.field-0-is at c.in-Ok-End.ensures)
+returns-in-Ok-End c = (c.at_end.ensures.0 ∙ ap (λ s. after s (opens c.args.n.now)) (rw c.in-Ok-End.field-0-is at c.in-Ok-End.ensures), c.at_end.ensures.1)
 
 pub returns-in-Err : goal.returns-in-Err
 unfolding stated nested after
-returns-in-Err c = ap (λ s. after s (opens c.args.n)) c.in-Err.ensures
+returns-in-Err c = (ap (λ s. after s (opens c.args.n.now)) c.in-Err.ensures, λ e. cc)

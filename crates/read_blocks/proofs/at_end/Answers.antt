@@ -1,5 +1,5 @@
 -- `read_blocks::at_end` meets its contract.
-use mathlib.Core.Path.{sym}
+use mathlib.Core.Path.{refl, sym}
 use native.Mathlib.Omega.{arith}
 use native.Mathlib.Nat as NatL
 use Rattle.kernel.specs.Named.{misread}
@@ -9,17 +9,17 @@ use Rattle.read_blocks.proofs.at_end.Goals as goal
 
 pub returns-then-n-eq0 : goal.returns-then-n-eq0
 unfolding nested misread
-returns-then-n-eq0 c = sym (end_none c.args.n c.if-n-eq0.true)
+returns-then-n-eq0 c = (sym (end_none c.args.n.now c.if-n-eq0.true), λ e. refl)
 
-pub overflow_sub-result : goal.overflow_sub-result
-overflow_sub-result c = omega (arith, for_loops c.args.n (NatL.pos_of_ne-zero c.if-n-eq0.false) c.in-For.is)
+pub overflow_sub-n : goal.overflow_sub-n
+overflow_sub-n c = omega (arith, for_loops c.args.n.now (NatL.pos_of_ne-zero c.if-n-eq0.false) c.in-For.is)
 
-pub nonzero_div-result : goal.nonzero_div-result
-nonzero_div-result c = for_there c.args.n (NatL.pos_of_ne-zero c.if-n-eq0.false) c.in-For.is
+pub nonzero_div-n : goal.nonzero_div-n
+nonzero_div-n c = for_there c.args.n.now (NatL.pos_of_ne-zero c.if-n-eq0.false) c.in-For.is
 
-pub invariant_of-result : goal.invariant_of-result
-invariant_of-result c =
-    let n = c.args.n in
+pub invariant_of-n : goal.invariant_of-n
+invariant_of-n c =
+    let n = c.args.n.now in
     let h = NatL.pos_of_ne-zero c.if-n-eq0.false in record {
       shallow = omega (arith, n.shallow);
       loops_are = omega (arith, for_loops n h c.in-For.is);
@@ -29,9 +29,9 @@ invariant_of-result c =
       few_passes = NatL.le_trans (NatL.div-le_self n.product c.in-For.passes) n.few_passes;
     }
 
-pub invariant_of-result-in-Else : goal.invariant_of-result-in-Else
-invariant_of-result-in-Else c =
-    let n = c.args.n in
+pub invariant_of-n-in-Else : goal.invariant_of-n-in-Else
+invariant_of-n-in-Else c =
+    let n = c.args.n.now in
     let h = NatL.pos_of_ne-zero c.if-n-eq0.false in record {
       shallow = omega (arith, n.shallow);
       loops_are = if_loops n h c.in-Else.is;
@@ -43,12 +43,12 @@ invariant_of-result-in-Else c =
 
 pub returns-in-For : goal.returns-in-For
 unfolding nested opens
-returns-in-For c = end_of_for c.args.n (NatL.pos_of_ne-zero c.if-n-eq0.false) c.in-For.is
+returns-in-For c = (end_of_for c.args.n.now (NatL.pos_of_ne-zero c.if-n-eq0.false) c.in-For.is, λ e. cc)
 
 pub returns-in-If : goal.returns-in-If
 unfolding nested misread
-returns-in-If c = sym (end_refused c.args.n (NatL.pos_of_ne-zero c.if-n-eq0.false) c.in-If.is)
+returns-in-If c = (sym (end_refused c.args.n.now (NatL.pos_of_ne-zero c.if-n-eq0.false) c.in-If.is), λ e. refl)
 
 pub returns-in-Else : goal.returns-in-Else
 unfolding nested opens
-returns-in-Else c = end_of_if c.args.n (NatL.pos_of_ne-zero c.if-n-eq0.false) c.in-Else.is
+returns-in-Else c = (end_of_if c.args.n.now (NatL.pos_of_ne-zero c.if-n-eq0.false) c.in-Else.is, λ e. cc)

@@ -8,8 +8,8 @@ use Rattle.read_blocks.proofs.named.Goals as goal
 
 pub returns-then-around : goal.returns-then-around
 unfolding nested
-returns-then-around c = sym (names_fine c.args.n (form c.args.f) (sym c.if-around.ensures))
+returns-then-around c = sym (names_fine c.args.n.now (form c.args.f) (sym c.if-around.ensures))
 
 pub returns-else-around : goal.returns-else-around
 unfolding nested misread
-returns-else-around c = sym (names_refused c.args.n (form c.args.f) (sym c.if-around.ensures))
+returns-else-around c = sym (names_refused c.args.n.now (form c.args.f) (sym c.if-around.ensures))

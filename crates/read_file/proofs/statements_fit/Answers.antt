@@ -48,16 +48,16 @@ returns-in-Err c =
     let l = c.loop-i in
     let g = (goal.at.returns-in-Err c).After-statement_fits in
     ap (λ f. stop f) c.refused-in-Err.ensures
-    ∙ sym (blocked (scope c.args.held) (Named.section c.args.section) (rows c.args.program) l.i (there g) (opens l.«open») (tested g ∙ c.if-not-statement_fits.false) c.in-Err.why
-    (c.in-Err.ensures ∙ ap (λ r. after (File.statement r) (opens l.«open»)) c.record-r.ensures))
+    ∙ sym (blocked (scope c.args.held) (Named.section c.args.section) (rows c.args.program) l.i (there g) (opens l.«open») (tested g ∙ c.if-not-statement_fits.false) c.in-Err.why c.after.new.n
+    (c.in-Err.ensures.0 ∙ ap (λ r. after (File.statement r) (opens l.«open»)) c.record-r.ensures))
     ∙ l.invariant
 
 pub loop-i-preserved : goal.loop-i-preserved
 loop-i-preserved c =
     let l = c.loop-i in
     let g = (goal.at.loop-i-preserved c).After-statement_fits in
-    goes_on (scope c.args.held) (Named.section c.args.section) (rows c.args.program) l.i (there g) (opens l.«open») (tested g ∙ c.if-not-statement_fits.false) c.in-Ok.n
-    (c.in-Ok.ensures ∙ ap (λ r. after (File.statement r) (opens l.«open»)) c.record-r.ensures)
+    goes_on (scope c.args.held) (Named.section c.args.section) (rows c.args.program) l.i (there g) (opens l.«open») (tested g ∙ c.if-not-statement_fits.false) c.after.new.n
+    (c.in-Ok.ensures.0 ∙ ap (λ r. after (File.statement r) (opens l.«open»)) c.record-r.ensures)
     ∙ l.invariant
 
 pub returns-then-open-ne0 : goal.returns-then-open-ne0

@@ -1,5 +1,5 @@
--- Nesting left falls: twice of it for a statement, and one more for a block.
-use Prim.Native.Nat.{◌+◌, ◌-◌}
+-- Nesting left falls: three times of it for a for and an if, one more for a statement, and two for a block.
+use Prim.Native.Nat.{◌+◌, ◌-◌, ◌*◌}
 use mathlib.Core.Path.{◌≡◌}
 use Rattle.numbers.specs.Words.{words}
 use Rattle.forms.specs.Code.{loop}
@@ -14,10 +14,16 @@ use Rattle.run_blocks.proofs.Runs.{Passed}
 use Rattle.run_blocks.proofs.+run_block_run_statement.Given as goal
 
 abbrev pub decreases-run_block : goal.decreases-run_block
-decreases-run_block l = l.a.now.left + l.a.now.left + 1
+decreases-run_block l = 3 * l.a.now.left + 2
 
 abbrev pub decreases-run_statement : goal.decreases-run_statement
-decreases-run_statement l = l.a.now.left + l.a.now.left
+decreases-run_statement l = 3 * l.a.now.left + 1
+
+abbrev pub decreases-run_loop : goal.decreases-run_loop
+decreases-run_loop l = 3 * l.a.now.left
+
+abbrev pub decreases-run_branch : goal.decreases-run_branch
+decreases-run_branch l = 3 * l.a.now.left
 
 -- the run of the whole block is the run from here on
 abbrev pub invariant-run_block-loop-s : goal.invariant-run_block-loop-s
@@ -30,7 +36,7 @@ abbrev pub decreases-run_block-loop-s : goal.decreases-run_block-loop-s
 decreases-run_block-loop-s l = l.records.part.count - l.i
 
 -- m passes have been made
-abbrev pub invariant-run_statement-loop-m : goal.invariant-run_statement-loop-m
-invariant-run_statement-loop-m l =
+abbrev pub invariant-run_loop-loop-m : goal.invariant-run_loop-loop-m
+invariant-run_loop-loop-m l =
     Whole l.output
     × Passed (λ m s. run (layout l.arrays) (tree_at (rows l.records) (l.i + 1)) (in_pass (loop l.l) (counters l.a) m) s) l.l.passes (state l.initial.machine (words l.initial.output)) l.m (state l.machine (words l.output))

@@ -1,41 +1,27 @@
--- `run_ends::depth_after` meets its contract: each code has its number.
-use Rattle.std.proofs.Common.{◌≡◌, ℕ, refl, inl, inr, arith}
-use Rattle.kernel.specs.declared.codes.Code.{Code}
-use Rattle.kernel.specs.declared.codes.Code.TheVariants.{Set, Copy, Work, Load, Store, Read, Write, For, If, Else, End}
+-- `run_ends::depth_after` meets its contract: one law for each test that is passed.
+use mathlib.Core.Path.{sym, ◌∙◌}
+use native.Mathlib.Omega.{arith}
 use Rattle.kernel.specs.Named.{code}
-use Rattle.run_ends.specs.View.{depth_after}
+use Rattle.run_ends.proofs.Scan.{depth_after_plain, depth_after_for, depth_after_if, depth_after_closing}
 use Rattle.run_ends.proofs.depth_after.Goals as goal
+
+pub returns-then-code-from : goal.returns-then-code-from
+unfolding code
+returns-then-code-from c = sym (depth_after_for _ _ (c.if-code-from.true ∙ c.from.ensures))
+
+pub returns-then-code-from-2 : goal.returns-then-code-from-2
+unfolding code
+returns-then-code-from-2 c = sym (depth_after_if _ _ (c.if-code-from-2.true ∙ c.from-2.ensures))
 
 pub overflow_sub-result : goal.overflow_sub-result
 unfolding code
-overflow_sub-result c = elim c.in-Else.is [ inl e ↦ c.requires.1 (rw e (omega arith)) | inr e ↦ c.requires.1 (rw e (omega arith)) ]
+overflow_sub-result c = c.requires.1 (omega (arith, c.if-code-from-3.true, c.from-3.ensures))
 
-pub returns-in-For : goal.returns-in-For
-unfolding depth_after code
-returns-in-For c = rw c.in-For.is
+pub returns-then-code-from-3 : goal.returns-then-code-from-3
+unfolding code
+returns-then-code-from-3 c = sym (depth_after_closing _ _ (omega (arith, c.if-code-from-3.true, c.from-3.ensures)))
 
-pub returns-in-If : goal.returns-in-If
-unfolding depth_after code
-returns-in-If c = rw c.in-If.is
-
-pub returns-in-Else : goal.returns-in-Else
-unfolding depth_after code
-returns-in-Else c = elim c.in-Else.is [ inl e ↦ rw e | inr e ↦ rw e ]
-
--- any other code leaves as many
-other : (d : ℕ) (c : Code) → (c ≡ For → ⊥) → (c ≡ If → ⊥) → (c ≡ Else → ⊥) → (c ≡ End → ⊥) → d ≡ depth_after d (code c)
-unfolding depth_after code
-other d Set for if else end = refl
-other d Copy for if else end = refl
-other d Work for if else end = refl
-other d Load for if else end = refl
-other d Store for if else end = refl
-other d Read for if else end = refl
-other d Write for if else end = refl
-other d For for if else end = absurd (for refl)
-other d If for if else end = absurd (if refl)
-other d Else for if else end = absurd (else refl)
-other d End for if else end = absurd (end refl)
-
-pub returns-in_default : goal.returns-in_default
-returns-in_default c = other c.args.depth c.args.c c.in_default.not-For c.in_default.not-If c.in_default.not-Else c.in_default.not-End
+pub returns : goal.returns
+unfolding code
+returns c =
+    sym (depth_after_plain _ _ (λ e. c.if-code-from.false (e ∙ sym c.from.ensures)) (λ e. c.if-code-from-2.false (e ∙ sym c.from-2.ensures)) (omega (arith, c.if-code-from-3.false, c.from-3.ensures)))

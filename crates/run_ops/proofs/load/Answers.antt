@@ -5,7 +5,6 @@ use Rattle.forms.specs.Form.{value}
 use Rattle.forms.specs.Code.{form}
 use Rattle.kernel.specs.File.{load}
 use Rattle.kernel.specs.Named.{reason}
-use Rattle.parts.proofs.Room.{form_room}
 use Rattle.run_loops.specs.View.{counters}
 use Rattle.run_ops.specs.States.{state}
 use Rattle.run_ops.specs.Layout.{layout, cell_at}
@@ -15,7 +14,7 @@ use Rattle.run_ops.proofs.load.Goals.{After-value}
 use Rattle.run_ops.proofs.load.Goals as goal
 
 pub value-requires : goal.value-requires
-value-requires c = (form_room c.args.f c.requires.0.fits.2, c.requires.1.each)
+value-requires c = (c.requires.2, c.requires.3.each)
 
 -- the form's value, as the code has it
 is : (c : After-value) → back c.value.result ≡ value (form c.args.f) c.args.a.now.values

@@ -6,14 +6,13 @@ use Rattle.numbers.proofs.Signs.{as_returned}
 use Rattle.forms.specs.Code.{form}
 use Rattle.kernel.specs.File.{set}
 use Rattle.kernel.specs.Machine.{perform, put}
-use Rattle.parts.proofs.Room.{form_room}
 use Rattle.run_loops.specs.View.{counters}
 use Rattle.run_ops.specs.States.{state}
 use Rattle.run_ops.proofs.States.{ends, put_there}
 use Rattle.run_ops.proofs.set.Goals as goal
 
 pub value-requires : goal.value-requires
-value-requires c = (form_room c.args.f c.requires.0.fits.1, c.requires.1.each)
+value-requires c = (c.requires.1, c.requires.2.each)
 
 pub returns : goal.returns
 unfolding perform

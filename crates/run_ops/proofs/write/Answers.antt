@@ -7,7 +7,7 @@ use lib.ListN.{get_or}
 use Rattle.numbers.specs.Words.{words}
 use Rattle.numbers.proofs.Signs.{back, as_returned}
 use Rattle.kernel.specs.File.{write}
-use Rattle.kernel.specs.Machine.{perform}
+use Rattle.kernel.specs.Machine.{perform, keep, place, advance}
 use Rattle.kernel.specs.Named.{reason}
 use Rattle.run_ops.specs.States.{state}
 use Rattle.run_ops.specs.Layout.{layout, cell_at}
@@ -25,28 +25,28 @@ unfolding perform
 returns-in_err-w c =
     let g = c.args in
     let ws = words g.output.now in (
-      λ d n. sticks (layout g.arrays.now) n (write g.p g.q) d (state g.machine.now ws) c.from_residual.result _ c.from_residual.ensures.1
+      λ d m n. sticks (record (layout g.arrays.now) { input = m }) n (write g.p g.q) d (state g.machine.now ws) c.from_residual.result _ c.from_residual.ensures.1
           (stops _ (refused _ (c.in_err-w.ensures ws))),
-      c.requires.1,
+      c.requires.2,
     )
 
 pub returns-in_err-to : goal.returns-in_err-to
-unfolding reason
+unfolding reason perform keep place advance
 returns-in_err-to c =
     let g = c.args in
     let e = layout g.arrays.now in
     let ws = words g.output.now in
     let at = refused _ (c.in_err-to.ensures.0 ∙ ap (cell_at e g.q 35) (is (goal.at.returns-in_err-to c).After-from)) in (
-      λ d n. sticks e n (write g.p g.q) d (state g.machine.now ws) c.from_residual-in_err-to.result _ c.from_residual-in_err-to.ensures.1
+      λ d m n. sticks (record e { input = m }) n (write g.p g.q) d (state g.machine.now ws) c.from_residual-in_err-to.result _ c.from_residual-in_err-to.ensures.1
           (write_sticks g.arrays.now d.values g.machine.now g.p g.q g.output.now c.in_ok-w.w (given _ (c.in_ok-w.ensures ws)) _ at),
-      c.requires.1,
+      c.requires.2,
     )
 
 pub overflow_add-machine : goal.overflow_add-machine
 overflow_add-machine c = omega (arith, c.in_ok-to.ensures.1, ap nat_abs (is (goal.at.overflow_add-machine c).After-from))
 
 pub returns : goal.returns
-unfolding reason
+unfolding reason perform keep place advance
 returns c =
     let g = c.args in
     let e = layout g.arrays.now in
@@ -54,7 +54,7 @@ returns c =
     let ws = words g.output.now in
     let at = given _ (c.in_ok-to.ensures.0 ∙ ap (cell_at e g.q 35) (is (goal.at.returns c).After-from)) in
     let small : w < 2 ^ 32 = omega arith in (
-      λ d n. ends e n (write g.p g.q) d (state g.machine.now ws)
+      λ d m n. ends (record e { input = m }) n (write g.p g.q) d (state g.machine.now ws)
           (writes g.arrays.now d.values g.machine.now g.p g.q g.output.now w (given _ (c.in_ok-w.ensures ws)) at small c.put_word.ensures),
-      whole_after g.output.now c.in_ok-to.to w small c.put_word.ensures c.requires.1,
+      whole_after g.output.now c.in_ok-to.to w small c.put_word.ensures c.requires.2,
     )

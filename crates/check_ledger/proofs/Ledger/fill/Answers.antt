@@ -9,7 +9,7 @@ use native.Mathlib.Omega.{arith}
 use lib.ListN.{length, get_or}
 use Rattle.check_ledger.specs.View.{ledger, no_form}
 use Rattle.check_ledger.proofs.Bounds.{bounded_same}
-use Rattle.check_ledger.proofs.Steps.{hold_right, filled}
+use Rattle.check_ledger.proofs.Steps.{held_at, filled}
 use Rattle.check_ledger.proofs.Ledger.fill.Goals as goal
 
 pub returns : goal.returns
@@ -22,6 +22,6 @@ returns c =
       λ K a d _ h first step.
           let next = along.ensures ∙ (λ i. F.along ((as_it_is c.requires.3 tt ∙ first) i) ((as_it_is c.requires.4 tt ∙ step) i) (form (get_or l.positions q no_form))) in
           c.passed.ensures.0 a d h
-          ∙ ap (L.passed q) (hold_right a d l c.args.b _ ∙ ap (λ x. L.hold c.args.b x (ledger a d l)) (filled a d l K q next h k)),
+          ∙ ap (L.passed q) (held_at a d l c.args.b _ (omega arith) ∙ ap (λ x. L.hold c.args.b x (ledger a d l)) (filled a d l K q next h k)),
       λ n h. c.passed.ensures.1 n (bounded_same h refl),
     )

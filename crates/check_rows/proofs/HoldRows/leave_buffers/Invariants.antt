@@ -8,4 +8,4 @@ use Rattle.check_rows.proofs.HoldRows.leave_buffers.Given as goal
 
 abbrev pub invariant-loop-i : goal.invariant-loop-i
 invariant-loop-i l =
-    Written held (first_changed (L.each_held (with_change l.change)) held l.self.ledger.buffers) l.self.buffers l.i l.l.buffers × (l.l.positions ≡ l.initial.l.positions)
+    Written held (first_changed (L.each_held (with_change l.change)) held l.self.ledger.now.buffers) l.self.buffers l.i l.l.buffers × (l.l.positions ≡ l.initial.l.positions)

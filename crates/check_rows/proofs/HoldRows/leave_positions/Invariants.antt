@@ -9,4 +9,4 @@ use Rattle.check_rows.proofs.HoldRows.leave_positions.Given as goal
 
 abbrev pub invariant-loop-i : goal.invariant-loop-i
 invariant-loop-i l =
-    Written form (first_changed (with_change l.change) form l.self.ledger.positions) l.self.arrays l.i l.l.positions × (l.l.buffers ≡ l.initial.l.buffers) × ((n : ℕ) → Bounded n l.initial.l → Bounded n l.l)
+    Written form (first_changed (with_change l.change) form l.self.ledger.now.positions) l.self.arrays l.i l.l.positions × (l.l.buffers ≡ l.initial.l.buffers) × ((n : ℕ) → Bounded n l.initial.l → Bounded n l.l)

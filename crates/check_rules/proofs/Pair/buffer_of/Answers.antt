@@ -8,10 +8,14 @@ pub overflow_sub-result : goal.overflow_sub-result
 unfolding rule
 overflow_sub-result c = search rules
 
-pub returns-in-Use : goal.returns-in-Use
+pub returns-in-Ok-Use : goal.returns-in-Ok-Use
 unfolding rule buffer_of
-returns-in-Use c = search rules
+returns-in-Ok-Use c = search rules
 
 pub returns-in_default : goal.returns-in_default
 unfolding rule buffer_of
 returns-in_default c = search rules
+
+pub returns-in_default-2 : goal.returns-in_default-2
+unfolding rule buffer_of
+returns-in_default-2 c = search rules

@@ -7,7 +7,7 @@ use native.Mathlib.Omega.{arith}
 use Rattle.std.proofs.Common.{rules}
 use Rattle.std.proofs.lemmas.List.{length-take, length-map}
 use Rattle.numbers.specs.Bounds.{Small}
-use Rattle.numbers.proofs.Signs.{small_back, as_it_is}
+use Rattle.numbers.proofs.Signs.{back, small_back, as_it_is}
 use Rattle.forms.specs.Form as F
 use Rattle.forms.specs.Code.{loop, loops, no_loop}
 use Rattle.forms.proofs.Shared.{sum_small, sum_fits, sum_back, most_of, most_more, most_small, most_of_all, loop_at}
@@ -28,9 +28,15 @@ module _ (c : After-best-sum) where
   around : level < c.args.ls.count
   around = let h = c.loop-level-test.true in omega (arith, c.min-level-end.ensures)
 
+  -- of some level's coefficient and some level's loop: that both are of this level is asked where the code is
+  best_is : (i j : ℕ) {r : ℤ} → r ≡ most_of (back (get_or c.args.self.x i (pos 0))) (loop (get_or c.args.ls.levels j no_loop)) → i ≡ level → j ≡ level → r ≡ term
+  best_is i j e at here =
+      e ∙ (λ k. most_of (back (get_or c.args.self.x (at k) (pos 0))) (loop (get_or c.args.ls.levels (here k) no_loop)))
+      ∙ ap (λ z. most_of z (loop (get_or c.args.ls.levels level no_loop))) (as_it_is (c.requires.0.x_small level) tt)
+
   term_is : c.best-sum.result ≡ term
   unfolding most_of
-  term_is = c.best-sum.ensures ∙ ap (λ z. most_of z (loop (get_or c.args.ls.levels level no_loop))) (as_it_is (c.requires.0.x_small level) tt)
+  term_is = best_is _ _ c.best-sum.ensures (omega arith) (omega arith)
 
   small : Small (2 ^ 50) c.best-sum.result
   small = rw term_is (most_small (c.requires.0.x_small level) (c.requires.1.turns level four around))

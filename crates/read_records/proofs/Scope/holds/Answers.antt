@@ -1,9 +1,19 @@
 -- `Scope::holds` meets its contract: an arm for each kind.
-use mathlib.Core.Path.{refl}
+use mathlib.Core.Path.{◌≡◌, refl, sym}
+use denote.Enum.Bare.{same_true}
+use Rattle.std.proofs.Common.{rules}
 use Rattle.kernel.specs.Named.{side}
 use Rattle.kernel.specs.Reading as Reading
+use Rattle.read_records.specs.contracts.Kind.{the_type}
+use Rattle.read_records.specs.declared.Kind.TheVariants.{Unused}
 use Rattle.read_records.specs.View.{kind_of}
 use Rattle.read_records.proofs.Scope.holds.Goals as goal
+
+pub returns-then-eq : goal.returns-then-eq
+unfolding Reading.holds kind_of
+returns-then-eq c =
+    let k : c.args.kind ≡ Unused = same_true the_type (search rules) _ _ (sym c.if-eq.ensures) in
+    rw (k, c.if-w-eq0.true) refl
 
 pub returns-in-Either : goal.returns-in-Either
 unfolding Reading.holds kind_of
