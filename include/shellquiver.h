@@ -7,7 +7,7 @@
  * given as a pointer and its length in bytes. The area that is written must not overlap the others, and nothing else may
  * write any of them during the call. Where a length is 0 the pointer may be NULL: nothing is read or written through it.
  * No call keeps anything, so calls may be made at the same time on written areas of their own. 48 KB of stack are enough
- * for every call (the check of eight blocks inside each other takes 28 KB, every other call less than 8 KB).
+ * for every call (the check of eight blocks inside each other takes at most 34 KB, every other call less than 8 KB).
  *
  * Sizes. A run, laying out or putting back is refused (21) where a memory has any other length than the one named at the
  * call. "Lengths" and "counts" there are those of the file's array records, added up over its input arrays or over its

@@ -124,3 +124,15 @@ one_answer file (Ok s) (Ok t) h k e = ap Ok (same_sections s t (h ∙ sym k) (on
 one_answer file (Ok s) (Err v) h k e = absurd (never_both e)
 one_answer file (Err u) (Ok t) h k e = absurd (never_both (sym e))
 one_answer file (Err u) (Err v) h k e = ap Err (one_unread u v (fault_one {A = File.Kernel} e))
+
+-- whatever file an answer carries, its counts or its refusal are told by what it is seen as
+abbrev pub counts_of : Std.Result Sections Unread → Std.Result Counts Unread
+counts_of (Ok s) = Ok s.counts
+counts_of (Err u) = Err u
+
+pub one_finding : (file : List ℕ) (r r' : Std.Result Sections Unread) → answer file r ≡ answer file r' → counts_of r ≡ counts_of r'
+unfolding answer
+one_finding file (Ok s) (Ok t) e = ap Ok (one_counts file s.counts t.counts (found_one e))
+one_finding file (Ok s) (Err v) e = absurd (never_both e)
+one_finding file (Err u) (Ok t) e = absurd (never_both (sym e))
+one_finding file (Err u) (Err v) e = ap Err (one_unread u v (fault_one {A = File.Kernel} e))

@@ -8,6 +8,7 @@ use Rattle.std.specs.Prelude.{Result, Ok, Err, IfOk}
 use Rattle.kernel.specs.File as File
 use Rattle.kernel.specs.Reading.{read_file}
 use Rattle.kernel.specs.declared.refusals.Unread.{Unread}
+use Rattle.parts.specs.declared.Counts.{Counts}
 use Rattle.parts.specs.declared.Kernel.{Kernel}
 use Rattle.parts.specs.contracts.Counts.{the_row}
 use Rattle.parts.specs.contracts.Kernel.{reads-found}
@@ -32,3 +33,18 @@ one_answer file (Err u) (Err v) h h' e = ap Err (one_unread u v (fault_one {A = 
 pub one_reading : (file : Bor (List ℕ)) (r r' : Result Kernel Unread) → IfOk r (λ k. k.file ≡ file) → IfOk r' (λ k. k.file ≡ file)
     → answer file.now r ≡ read_file file.now → answer file.now r' ≡ read_file file.now → r ≡ r'
 one_reading file r r' h h' e e' = one_answer file r r' h h' (e ∙ sym e')
+
+-- whatever file an answer carries, its counts or its refusal are told by what it is seen as
+abbrev pub counts_of : Result Kernel Unread → Result Counts Unread
+counts_of (Ok k) = Ok k.counts
+counts_of (Err u) = Err u
+
+pub one_finding : (file : List ℕ) (r r' : Result Kernel Unread) → answer file r ≡ answer file r' → counts_of r ≡ counts_of r'
+unfolding answer
+one_finding file (Ok k) (Ok l) e = ap Ok (one_counts file k.counts l.counts (found_one e))
+one_finding file (Ok k) (Err v) e = absurd (never_both e)
+one_finding file (Err u) (Ok l) e = absurd (never_both (sym e))
+one_finding file (Err u) (Err v) e = ap Err (one_unread u v (fault_one {A = File.Kernel} e))
+
+pub one_read : (file : List ℕ) (r r' : Result Kernel Unread) → answer file r ≡ read_file file → answer file r' ≡ read_file file → counts_of r ≡ counts_of r'
+one_read file r r' e e' = one_finding file r r' (e ∙ sym e')
