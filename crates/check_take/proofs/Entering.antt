@@ -1,5 +1,5 @@
 -- A for that fits: its rows are all there and their forms small, its loop fits, and inside it the array program reads on.
-use Prim.Native.Nat.{ℕ, zero, suc, ◌+◌, ◌-◌, ◌≤◌, ◌<◌}
+use Prim.Native.Nat.{ℕ, zero, suc, ◌+◌, ◌-◌, ◌^◌, ◌≤◌, ◌<◌}
 use mathlib.Core.Path.{◌≡◌, refl, sym, ap, subst, ◌∙◌}
 use mathlib.Core.Bool.{Bool, true, ◌&&◌, false≢true}
 use mathlib.Core.List.{List, [], ◌∷◌, ◌++◌, map}
@@ -14,7 +14,7 @@ use Rattle.numbers.specs.Words.{signed}
 use Rattle.numbers.proofs.Tests.{and_left, and_right}
 use Rattle.forms.specs.Form as F
 use Rattle.forms.specs.declared.Loops.{Loops}
-use Rattle.forms.specs.Code.{loop, loops}
+use Rattle.forms.specs.Code.{loop, loops, Within}
 use Rattle.kernel.specs.File.{Rec, form, nothing, Kernel, fors, loop_of}
 use Rattle.kernel.specs.Reading.{array_scope, Open, open_loops}
 use Rattle.kernel.specs.Ledger as L
@@ -33,9 +33,8 @@ use Rattle.parts.specs.declared.Kernel as Code
 use Rattle.parts.specs.Parts.{kernel, records_in, ReadAs, derivation_part}
 use Rattle.check_rows.proofs.Rows.{row}
 use Rattle.check_ledger.specs.declared.Ledger.{Ledger}
-use Rattle.check_ledger.specs.View.{ledger, Bounded}
+use Rattle.check_ledger.specs.View.{ledger, no_form, Bounded}
 use Rattle.check_ledger.proofs.Bounds.{within_wider}
-use Rattle.check_rows.specs.Changes.{Stated}
 use Rattle.check_rows.specs.View.{SmallForms}
 use Rattle.check_take.specs.declared.Place.{Place}
 use Rattle.check_take.specs.View.{held_by, Taken, goes, Stood, Onward, array_there, stream_there, loop_there, TakesRule, ReadsOn, Enters}
@@ -105,8 +104,9 @@ module _ (file : List ℕ) (c : Counts) (e : ReadAs file c) where
   pub small_forms : SmallForms (records_in file (derivation_part c))
   small_forms = subst SmallForms (derivation_is file c) (record { at_record = λ i. small_form i (dec_lt i (length rs)) })
 
-pub stated_bounded : (n : ℕ) (l : Ledger) → length l.positions ≡ 8 → Stated l → Bounded n l
-stated_bounded n l whole h = record { whole = whole; at_position = λ q. within_wider (h.at_position q) (omega arith) (omega arith) }
+-- positions as small as those of a file; what buffers hold is not asked
+pub stated_bounded : (n : ℕ) (l : Ledger) → length l.positions ≡ 8 → ((q : ℕ) → Within (2 ^ 20) (2 ^ 20) (get_or l.positions q no_form)) → Bounded n l
+stated_bounded n l whole h = record { whole = whole; at_position = λ q. within_wider (h q) (omega arith) (omega arith) }
 
 -- ---- after a for and its rows
 
@@ -170,7 +170,7 @@ module _ (k : Code.Kernel) (at : Place) (l : Ledger) where
       pub loop_fits : LoopFits (loop_there k at)
       loop_fits = subst (StatementFits (array_scope K)) (says_for a for_code) (fits_at (reads file c k.reads).array_program at.array (there_at K.array_program at.array (omega (arith, for_code))))
 
-      pub for_onward : (m : Ledger) → Stood c at l → at.rule < c.d → length m.positions ≡ 8 → Stated m → Onward c at (past_rows c at) m
+      pub for_onward : (m : Ledger) → Stood c at l → at.rule < c.d → length m.positions ≡ 8 → ((q : ℕ) → Within (2 ^ 20) (2 ^ 20) (get_or m.positions q no_form)) → Onward c at (past_rows c at) m
       for_onward m g d whole h' = record {
         stood = record { rules = rows_there d; arrays = omega (arith, g.arrays); streams = omega (arith, g.streams); bounded = stated_bounded _ m whole h' };
         further_on = omega arith;

@@ -70,6 +70,15 @@ module _ {k : Kernel} where
 
 -- ---- stretches from a rule on
 
+-- a for that was entered: `EnteredFor` without `stated`
+pub record ForTaken (k : Kernel) (at : Place) (l : Ledger) (around : List F.Loop) (e : Taken) : Type 0 where
+  pub as_defined : (os : List Opened) → S.loops os ≡ around → TakesRule k os at l (S.in_for (loop_there k at) (ledger k.counts.a k.counts.b e.ledger) ∷ os) e
+  pub onward : (to : Place) → e.came ≡ Ok to → Onward k.counts at to e.ledger
+  pub enters : (to : Place) → e.came ≡ Ok to → (opens : List Open) → ReadsOn k opens at → Enters k opens at to
+
+pub for_taken : {k : Kernel} {at : Place} {l : Ledger} {around : List F.Loop} {e : Taken} → EnteredFor k at l around e → ForTaken k at l around e
+for_taken E = record { as_defined = E.as_defined; onward = E.onward; enters = E.enters }
+
 module _ (k : Kernel) {at : Place} {l : Ledger} (there : AtRule k.counts at l) (ls : Loops) where
   -- the walk comes to e with one block more open
   abbrev pub Opening : Opened → Taken → Type 0
@@ -90,7 +99,7 @@ module _ (k : Kernel) {at : Place} {l : Ledger} (there : AtRule k.counts at l) (
 
   -- ---- a for
 
-  module _ {e : Taken} (E : EnteredFor k at l (loops ls) e) where
+  module _ {e : Taken} (E : ForTaken k at l (loops ls) e) where
     abbrev rows : Opened
     rows = S.in_for (loop_there k at) (ledger k.counts.a k.counts.b e.ledger)
 

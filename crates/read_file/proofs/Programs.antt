@@ -5,7 +5,7 @@ use mathlib.Core.Bool.{true, false}
 use mathlib.Core.List.{List}
 use native.Mathlib.Omega.{arith}
 use lib.ListN.{length, get_or, drop, drop_of_length-le}
-use Rattle.std.specs.Prelude.{Ok, Err}
+use Rattle.std.specs.Prelude.{Ok}
 use Rattle.numbers.specs.Result.{ok, stop, need, because, ◌>>=◌}
 use Rattle.numbers.proofs.Rows.{drop_there}
 use Rattle.kernel.specs.File.{Rec, nothing, none, sayings, statement, loop_of}
@@ -53,9 +53,9 @@ module _ (c : Scope) (s : ℕ) (rs : List Rec) (i : ℕ) (h : i < length rs) (os
         opened_up
         ∙ ap (λ t. need (fault 3 s i) t >>= λ _. because (λ number. fault number s i) (after (statement this) os) >>= λ os. statements_fit c s (i + 1) os (drop (i + 1) rs)) f
 
-    pub blocked : (m : Misread) (n : OpenBlocks) → nested (Err m) n ≡ after (statement this) os → statements_fit c s i os (drop i rs) ≡ stop (fault (misread m) s i)
-    unfolding because ◌>>=◌ nested
-    blocked m n e = fine ∙ ap (λ m. because (λ number. fault number s i) m >>= λ os. statements_fit c s (i + 1) os (drop (i + 1) rs)) (sym e)
+    pub blocked : (m : Misread) → stop (misread m) ≡ after (statement this) os → statements_fit c s i os (drop i rs) ≡ stop (fault (misread m) s i)
+    unfolding because ◌>>=◌
+    blocked m e = fine ∙ ap (λ m. because (λ number. fault number s i) m >>= λ os. statements_fit c s (i + 1) os (drop (i + 1) rs)) (sym e)
 
     pub goes_on : (n : OpenBlocks) → nested (Ok tt) n ≡ after (statement this) os → statements_fit c s (i + 1) (opens n) (drop (i + 1) rs) ≡ statements_fit c s i os (drop i rs)
     unfolding because ◌>>=◌ nested

@@ -184,7 +184,7 @@ returns c =
       as_defined = λ os o.
           let level = level_of g.Start os o in
           went_in k at l os _ m (fit k os at l For c.requires.2 (goes g.In_ok-need os level) (for_enters k at l os c.args.around.count (loops c.args.around) _ level o (stated_there first (records_are g.After-derivation-records) os) ∙ need_holds 14 _ _ so));
-      onward = λ to e. subst (λ to. Onward k.counts at to m) (same_place e) (for_onward k at l (blocks g.In_ok-need) (some g.In_ok-need) m c.requires.0.stood c.requires.0.there whole c.state.ensures.1);
+      onward = λ to e. subst (λ to. Onward k.counts at to m) (same_place e) (for_onward k at l (blocks g.In_ok-need) (some g.In_ok-need) m c.requires.0.stood c.requires.0.there whole c.state.ensures.1.at_position);
       stated = λ to e. c.state.ensures.1;
       enters = λ to e. subst (λ to. (opens : List Open) → ReadsOn k opens at → Enters k opens at to) (same_place e) (enters k at l (blocks g.In_ok-need) (some g.In_ok-need));
     }

@@ -20,7 +20,7 @@ use Rattle.check_take.specs.View.{standing, with_ledger, due, loop_there, Closin
 use Rattle.check_take.proofs.Came.{refuses}
 use Rattle.check_walk.specs.View.{RuleWalked}
 use Rattle.check_walk.proofs.Walks.{passed_on, goes_none, goes_then, goes_missing}
-use Rattle.check_walk.proofs.Stretches.{further_none, rule_then, block_then, opens_for, opens_if, opens_else, closes_inside, stops_inside, for_entered, for_body, for_left, if_entered, if_first, if_turned, if_second, if_left}
+use Rattle.check_walk.proofs.Stretches.{further_none, rule_then, block_then, opens_for, opens_if, opens_else, closes_inside, stops_inside, for_taken, for_entered, for_body, for_left, if_entered, if_first, if_turned, if_second, if_left}
 use Rattle.check_walk.proofs.+check_block_check_rule.Goals.{check_block-After-check_rule, check_rule-In_ok-body-in-For, check_for-Start, check_for-After-for_loop-own, check_if-After-turn}
 use Rattle.check_walk.proofs.+check_block_check_rule.Goals as goal
 
@@ -80,7 +80,7 @@ check_rule-returns-in_err-body-in-For t c =
     let b = c.requires.0 in
     let was = c.in_err-body-in-For.was in
     let in_it = with_ledger c.enter_for.result c.enter_for.new.l in
-    stops_inside k b c.args.ls in_it _ _ (for_entered k b c.args.ls c.enter_for.ensures) was (passed_on was c.from_residual.ensures.1)
+    stops_inside k b c.args.ls in_it _ _ (for_entered k b c.args.ls (for_taken c.enter_for.ensures)) was (passed_on was c.from_residual.ensures.1)
 
 -- entered
 module _ (t : ℕ) (c : check_rule-In_ok-body-in-For t) where
@@ -129,7 +129,7 @@ check_for-returns-in_err-end t c start there E =
     let v = c.check_block in
     let end = with_ledger v.result v.new.l in
     let was = c.in_err-end.was in
-    stops_inside k there c.args.ls end _ _ (for_body k there c.args.ls E c.deeper-inner.result c.for_loop-own.result (for_same t at.After-for_loop-own) c.deeper-inner.ensures.0 refl end v.ensures) was (passed_on was c.from_residual.ensures.1)
+    stops_inside k there c.args.ls end _ _ (for_body k there c.args.ls (for_taken E) c.deeper-inner.result c.for_loop-own.result (for_same t at.After-for_loop-own) c.deeper-inner.ensures.0 refl end v.ensures) was (passed_on was c.from_residual.ensures.1)
 
 pub check_for-invariant_of-rows : goal.check_for-invariant_of-rows
 check_for-invariant_of-rows t c =
@@ -147,7 +147,7 @@ pub check_for-returns : goal.check_for-returns
 check_for-returns t c start there E =
     let at = goal.at.check_for-returns t c in
     let v = c.check_block in
-    for_left c.args.kernel there c.args.ls E c.deeper-inner.result c.for_loop-own.result (for_same t at.After-for_loop-own) c.deeper-inner.ensures.0 refl (with_ledger v.result v.new.l) v.ensures c.in_ok-end.was c.leave_for.ensures
+    for_left c.args.kernel there c.args.ls (for_taken E) c.deeper-inner.result c.for_loop-own.result (for_same t at.After-for_loop-own) c.deeper-inner.ensures.0 refl (with_ledger v.result v.new.l) v.ensures c.in_ok-end.was c.leave_for.ensures
 
 -- ---- an if
 

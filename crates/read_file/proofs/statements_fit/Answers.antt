@@ -13,7 +13,7 @@ use Rattle.parts.specs.Records.{rec}
 use Rattle.parts.specs.Tables.{rows}
 use Rattle.parts.proofs.Records.{count_is}
 use Rattle.read_records.specs.View.{scope}
-use Rattle.read_blocks.specs.View.{opens}
+use Rattle.read_blocks.specs.View.{opens, nested}
 use Rattle.read_file.specs.View.{checked}
 use Rattle.read_file.proofs.Programs.{loop_there, unfit, blocked, goes_on, over_closed, over_open}
 use Rattle.read_file.proofs.statements_fit.Goals.{After-statement_fits}
@@ -43,12 +43,12 @@ pub after-requires : goal.after-requires
 after-requires c = loop_there (scope c.args.held) (rec c.record-r.result) (sym c.if-not-statement_fits.ensures)
 
 pub returns-in-Err : goal.returns-in-Err
-unfolding checked
+unfolding checked nested
 returns-in-Err c =
     let l = c.loop-i in
     let g = (goal.at.returns-in-Err c).After-statement_fits in
     ap (λ f. stop f) c.refused-in-Err.ensures
-    ∙ sym (blocked (scope c.args.held) (Named.section c.args.section) (rows c.args.program) l.i (there g) (opens l.«open») (tested g ∙ c.if-not-statement_fits.false) c.in-Err.why c.after.new.n
+    ∙ sym (blocked (scope c.args.held) (Named.section c.args.section) (rows c.args.program) l.i (there g) (opens l.«open») (tested g ∙ c.if-not-statement_fits.false) c.in-Err.why
     (c.in-Err.ensures.0 ∙ ap (λ r. after (File.statement r) (opens l.«open»)) c.record-r.ensures))
     ∙ l.invariant
 
